@@ -1,0 +1,6 @@
+pub mod ColumnSteps
+pub mod Fixing
+pub mod Graphs
+pub mod OutputSteps
+pub mod Passing
+pub mod Patterns

@@ -1,0 +1,6 @@
+pub mod Forms
+pub mod Queries
+pub mod QueryRefusals
+pub mod Refusals
+pub mod Schemas
+pub mod Tokens

@@ -1,0 +1,12 @@
+ghost use Rattle.pgq_base.specs.Instances.{InstanceRows};
+ghost use Rattle.multisets.specs.Bags.{IsWithoutRepeats};
+ghost use Rattle.graph_meaning.specs.declared.graph.EdgeGraph.{EdgeGraph as Graph};
+ghost use Rattle.graph_meaning.specs.Fits.{Fits};
+ghost use Rattle.graph_meaning.specs.View.{vertices, edges};
+
+/// Over an instance that fits, each vertex and each edge of the view stands once.
+pub fn elements_stand_once()
+    ensures vertices { (graph : Graph) (instance : InstanceRows) → Fits graph instance → IsWithoutRepeats (vertices instance) }
+    ensures edges { (graph : Graph) (instance : InstanceRows) → Fits graph instance → IsWithoutRepeats (edges instance) }
+{
+}

@@ -1,0 +1,10 @@
+pub mod Causes
+pub mod Codes
+pub mod Files
+pub mod Instances
+pub mod Kleene
+pub mod Loads
+pub mod Memory
+pub mod Tables
+pub mod Values
+pub mod formers
