@@ -15,7 +15,11 @@ fn length_in(token: &Token) -> Option<u32>
     match &token.kind {
         Kind::Digits(digits) => {
             let number = number_up_to_limit(digits.as_slice());
-            if 1 <= number && number <= 4000 { Some(number) } else { None }
+            if 1 <= number && number <= 4000 {
+                Some(number)
+            } else {
+                None
+            }
         }
         _ => None,
     }

@@ -131,7 +131,13 @@ fn all_tokens(alloc: Global, text: &[u8]) -> Result<Option<List<Token>>, NoMemor
             match first_token(alloc, &text[at..])? {
                 Some((kind, count)) => {
                     let to = at + count;
-                    tokens.push(Token { kind, span: Span { from: at as u32, to: to as u32 } })?;
+                    tokens.push(Token {
+                        kind,
+                        span: Span {
+                            from: at as u32,
+                            to: to as u32,
+                        },
+                    })?;
                     at = to;
                 }
                 None => return Ok(None),

@@ -34,7 +34,12 @@ fn take_next_output(alloc: Global, cursor: &mut Cursor<'_>) -> Result<Output, Mi
 }
 
 // More columns, behind those that there are.
-fn take_more_outputs(alloc: Global, mut outputs: List<Output>, most: usize, cursor: &mut Cursor<'_>) -> Result<List<Output>, Miss>
+fn take_more_outputs(
+    alloc: Global,
+    mut outputs: List<Output>,
+    most: usize,
+    cursor: &mut Cursor<'_>,
+) -> Result<List<Output>, Miss>
     ensures { Reads (before_outputs outputs (outputs_from most cursor.old)) result cursor.new }
 {
     let mut more = most;
@@ -49,7 +54,11 @@ fn take_more_outputs(alloc: Global, mut outputs: List<Output>, most: usize, curs
 }
 
 #[tactic(auto, unfolding(crate::specs::Queries::more_outputs))]
-fn take_rest(alloc: Global, outputs: List<Output>, cursor: &mut Cursor<'_>) -> Result<List<Output>, Miss>
+fn take_rest(
+    alloc: Global,
+    outputs: List<Output>,
+    cursor: &mut Cursor<'_>,
+) -> Result<List<Output>, Miss>
     ensures { Reads (before_outputs outputs (more_outputs cursor.old)) result cursor.new }
 {
     take_more_outputs(alloc, outputs, MOST_OUTPUTS, cursor)

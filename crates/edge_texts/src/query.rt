@@ -23,9 +23,20 @@ fn take_pattern(alloc: Global, cursor: &mut Cursor<'_>) -> Result<EdgeQuery, Mis
     let graph = take_name(alloc, cursor)?;
     expect(&[Item::Word(b"MATCH"), Item::Symbol(b'(')], cursor)?;
     let source = take_name(alloc, cursor)?.name;
-    expect(&[Item::Symbol(b')'), Item::Symbol(b'-'), Item::Symbol(b'[')], cursor)?;
+    expect(
+        &[Item::Symbol(b')'), Item::Symbol(b'-'), Item::Symbol(b'[')],
+        cursor,
+    )?;
     let edge = take_name(alloc, cursor)?.name;
-    expect(&[Item::Symbol(b']'), Item::Symbol(b'-'), Item::Symbol(b'>'), Item::Symbol(b'(')], cursor)?;
+    expect(
+        &[
+            Item::Symbol(b']'),
+            Item::Symbol(b'-'),
+            Item::Symbol(b'>'),
+            Item::Symbol(b'('),
+        ],
+        cursor,
+    )?;
     let target = take_name(alloc, cursor)?.name;
     Ok(EdgeQuery {
         graph: graph.name,
@@ -50,7 +61,14 @@ fn take_query(alloc: Global, cursor: &mut Cursor<'_>) -> Result<EdgeQuery, Miss>
     ];
     expect(&head, cursor)?;
     let pattern = take_pattern(alloc, cursor)?;
-    expect(&[Item::Symbol(b')'), Item::Word(b"COLUMNS"), Item::Symbol(b'(')], cursor)?;
+    expect(
+        &[
+            Item::Symbol(b')'),
+            Item::Word(b"COLUMNS"),
+            Item::Symbol(b'('),
+        ],
+        cursor,
+    )?;
     let columns = take_outputs(alloc, cursor)?;
     expect(&[Item::Symbol(b')'), Item::Symbol(b')')], cursor)?;
     Ok(EdgeQuery { columns, ..pattern })
@@ -94,7 +112,8 @@ fn is_proper(query: &EdgeQuery) -> bool
     ensures { result ≡ is_proper query.now }
 {
     let outputs = query.columns.as_slice();
-    let source_apart = !same_name(&query.source, &query.edge) && !same_name(&query.source, &query.target);
+    let source_apart = !same_name(&query.source, &query.edge)
+        && !same_name(&query.source, &query.target);
     let apart = source_apart && !same_name(&query.edge, &query.target);
     apart && all_of_pattern(query, outputs) && outputs_differ(outputs)
 }

@@ -50,9 +50,8 @@ fn is_same_word(a: ColumnType, b: ColumnType) -> bool
 fn agrees_with(others: &[Column], column: &Column) -> bool
     ensures { result ≡ agrees_with others.now column.now }
 {
-    others
-        .iter()
-        .all(|other| !same_name(&column.name, &other.name) || is_same_word(column.kind, other.kind))
+    others.iter().all(|other| !same_name(&column.name, &other.name)
+        || is_same_word(column.kind, other.kind))
 }
 
 fn all_agree(columns: &[Column], others: &[Column]) -> bool

@@ -10,6 +10,7 @@ use std::alloc::Global;
 
 // How many more columns a table may have behind those of its form.
 const MORE_VERTEX_COLUMNS: usize = 255;
+
 const MORE_EDGE_COLUMNS: usize = 253;
 
 // A column that holds a key.
@@ -30,7 +31,12 @@ fn one_column(alloc: Global, key: Name) -> Result<List<Column>, NoMemory>
     Ok(columns)
 }
 
-fn three_columns(alloc: Global, key: Name, source: Column, destination: Column) -> Result<List<Column>, NoMemory>
+fn three_columns(
+    alloc: Global,
+    key: Name,
+    source: Column,
+    destination: Column,
+) -> Result<List<Column>, NoMemory>
     ensures { IfOk result (λ columns. columns ≡ record { name = key; kind = ColumnType.Integer } ∷ source ∷ destination ∷ []) }
 {
     let mut columns = List::new(alloc);
@@ -48,13 +54,25 @@ fn take_vertices(alloc: Global, cursor: &mut Cursor<'_>) -> Result<Table, Miss>
     let name = take_name(alloc, cursor)?.name;
     expect(&[Item::Symbol(b'(')], cursor)?;
     let key = take_name(alloc, cursor)?.name;
-    expect(&[Item::Word(b"INTEGER"), Item::Word(b"PRIMARY"), Item::Word(b"KEY")], cursor)?;
+    expect(
+        &[
+            Item::Word(b"INTEGER"),
+            Item::Word(b"PRIMARY"),
+            Item::Word(b"KEY"),
+        ],
+        cursor,
+    )?;
     let columns = take_columns(alloc, one_column(alloc, key)?, MORE_VERTEX_COLUMNS, cursor)?;
     Ok(Table { name, columns })
 }
 
 // A reference to the key of the vertices, behind a comma.
-fn take_link<'a>(alloc: Global, vertices: &'a Name, key: &'a Name, cursor: &mut Cursor<'_>) -> Result<Column, Miss>
+fn take_link<'a>(
+    alloc: Global,
+    vertices: &'a Name,
+    key: &'a Name,
+    cursor: &mut Cursor<'_>,
+) -> Result<Column, Miss>
     ensures { Reads (link_from vertices.now key.now cursor.old) result cursor.new }
 {
     expect(&[Item::Symbol(b',')], cursor)?;
@@ -63,7 +81,11 @@ fn take_link<'a>(alloc: Global, vertices: &'a Name, key: &'a Name, cursor: &mut 
     Ok(key_column(name))
 }
 
-fn expect_reference<'a>(vertices: &'a Name, key: &'a Name, cursor: &mut Cursor<'_>) -> Result<(), Miss>
+fn expect_reference<'a>(
+    vertices: &'a Name,
+    key: &'a Name,
+    cursor: &mut Cursor<'_>,
+) -> Result<(), Miss>
     ensures { Reads (fixed (word (codes "INTEGER") ∷ reference_slots vertices.now key.now) cursor.old) result cursor.new }
 {
     let items = [
@@ -77,23 +99,52 @@ fn expect_reference<'a>(vertices: &'a Name, key: &'a Name, cursor: &mut Cursor<'
     expect(&items, cursor)
 }
 
-fn take_edges<'a>(alloc: Global, vertices: &'a Name, vertex_key: &'a Name, cursor: &mut Cursor<'_>) -> Result<Table, Miss>
+fn take_edges<'a>(
+    alloc: Global,
+    vertices: &'a Name,
+    vertex_key: &'a Name,
+    cursor: &mut Cursor<'_>,
+) -> Result<Table, Miss>
     ensures value { Reads (edges_from vertices.now vertex_key.now cursor.old) result cursor.new }
     ensures columns { IfOk result (λ table. 3 ≤ length table.columns) }
 {
-    expect(&[Item::Symbol(b')'), Item::Symbol(b';'), Item::Word(b"CREATE"), Item::Word(b"TABLE")], cursor)?;
+    expect(
+        &[
+            Item::Symbol(b')'),
+            Item::Symbol(b';'),
+            Item::Word(b"CREATE"),
+            Item::Word(b"TABLE"),
+        ],
+        cursor,
+    )?;
     let name = take_name(alloc, cursor)?.name;
     expect(&[Item::Symbol(b'(')], cursor)?;
     let key = take_name(alloc, cursor)?.name;
-    expect(&[Item::Word(b"INTEGER"), Item::Word(b"PRIMARY"), Item::Word(b"KEY")], cursor)?;
+    expect(
+        &[
+            Item::Word(b"INTEGER"),
+            Item::Word(b"PRIMARY"),
+            Item::Word(b"KEY"),
+        ],
+        cursor,
+    )?;
     let source = take_link(alloc, vertices, vertex_key, cursor)?;
     let destination = take_link(alloc, vertices, vertex_key, cursor)?;
-    let columns = take_columns(alloc, three_columns(alloc, key, source, destination)?, MORE_EDGE_COLUMNS, cursor)?;
+    let columns = take_columns(
+        alloc,
+        three_columns(alloc, key, source, destination)?,
+        MORE_EDGE_COLUMNS,
+        cursor,
+    )?;
     Ok(Table { name, columns })
 }
 
 // VERTEX TABLES and EDGE TABLES, up to the edge table's name.
-fn expect_elements<'a>(vertices: &'a Name, edges: &'a Name, cursor: &mut Cursor<'_>) -> Result<(), Miss>
+fn expect_elements<'a>(
+    vertices: &'a Name,
+    edges: &'a Name,
+    cursor: &mut Cursor<'_>,
+) -> Result<(), Miss>
     ensures { Reads (fixed (element_slots vertices.now edges.now) cursor.old) result cursor.new }
 {
     let items = [
@@ -112,7 +163,13 @@ fn expect_elements<'a>(vertices: &'a Name, edges: &'a Name, cursor: &mut Cursor<
 
 #[tactic(auto, unfolding(crate::specs::Schemas::end_slots))]
 // One end of the edges: its side, the referring column, and the vertices' name and key.
-fn expect_end<'a>(side: &'a [u8], column: &'a Name, vertices: &'a Name, key: &'a Name, cursor: &mut Cursor<'_>) -> Result<(), Miss>
+fn expect_end<'a>(
+    side: &'a [u8],
+    column: &'a Name,
+    vertices: &'a Name,
+    key: &'a Name,
+    cursor: &mut Cursor<'_>,
+) -> Result<(), Miss>
     ensures { Reads (fixed (end_slots side.now column.now vertices.now key.now) cursor.old) result cursor.new }
 {
     let items = [
@@ -131,7 +188,12 @@ fn expect_end<'a>(side: &'a [u8], column: &'a Name, vertices: &'a Name, key: &'a
 }
 
 // The graph over the two tables, and its name.
-fn take_graph(alloc: Global, vertices: &Table, edges: &Table, cursor: &mut Cursor<'_>) -> Result<Named, Miss>
+fn take_graph(
+    alloc: Global,
+    vertices: &Table,
+    edges: &Table,
+    cursor: &mut Cursor<'_>,
+) -> Result<Named, Miss>
     requires vertices { 0 < length vertices.now.columns }
     requires edges { 2 < length edges.now.columns }
     ensures { Reads (graph_from vertices.now edges.now cursor.old) result cursor.new }
@@ -164,12 +226,24 @@ fn expect_ends(vertices: &Table, edges: &Table, cursor: &mut Cursor<'_>) -> Resu
 }
 
 // The end whose column is at this place.
-fn expect_end_at(side: &[u8], vertices: &Table, edges: &Table, place: usize, cursor: &mut Cursor<'_>) -> Result<(), Miss>
+fn expect_end_at(
+    side: &[u8],
+    vertices: &Table,
+    edges: &Table,
+    place: usize,
+    cursor: &mut Cursor<'_>,
+) -> Result<(), Miss>
     requires vertices { 0 < length vertices.now.columns }
     requires edges { place < length edges.now.columns }
     ensures { Reads (fixed (end_slots side.now (column_at edges.now place) vertices.now.name (column_at vertices.now 0)) cursor.old) result cursor.new }
 {
-    expect_end(side, column_name(edges, place), &vertices.name, column_name(vertices, 0), cursor)
+    expect_end(
+        side,
+        column_name(edges, place),
+        &vertices.name,
+        column_name(vertices, 0),
+        cursor,
+    )
 }
 
 fn column_name(table: &Table, place: usize) -> &Name

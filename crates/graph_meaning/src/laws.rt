@@ -8,5 +8,4 @@ ghost use Rattle.graph_meaning.specs.View.{vertices, edges};
 pub fn elements_stand_once()
     ensures vertices { (graph : Graph) (instance : InstanceRows) → Fits graph instance → IsWithoutRepeats (vertices instance) }
     ensures edges { (graph : Graph) (instance : InstanceRows) → Fits graph instance → IsWithoutRepeats (edges instance) }
-{
-}
+{}

@@ -72,7 +72,12 @@ fn column_name(alloc: Global, table: &Table, place: usize) -> Result<Name, NoMem
 }
 
 // The edge's reference at a place equals the key of the vertex under the alias.
-fn reference_to(alloc: Global, graph: &EdgeGraph, place: usize, alias: &[u8]) -> Result<Equality, NoMemory>
+fn reference_to(
+    alloc: Global,
+    graph: &EdgeGraph,
+    place: usize,
+    alias: &[u8],
+) -> Result<Equality, NoMemory>
     requires vertices { 1 ≤ length graph.now.vertices.columns }
     requires edges { place < length graph.now.edges.columns }
     requires least { 1 ≤ length alias.now }

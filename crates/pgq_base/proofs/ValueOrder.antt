@@ -1,10 +1,10 @@
 -- The order of values tells them apart.
-use Rattle.std.proofs.Common.{◌≡◌, ℕ, Bool, true, false, List, [], ◌∷◌, refl, sym, ap, ap₂, ◌∙◌, Decides, Ordering, Less, Equal, Greater, true≢false}
-use Rattle.std.specs.Ordering.{is_eq, bool_cmp}
-use Rattle.std.specs.Cmp.{Equal-is, bool_cmp_total, IsTotalOrder}
+use Rattle.std.proofs.Common.{◌≡◌, Bool, true, false, List, [], ◌∷◌, refl, sym, ap, ap₂, ◌∙◌, Decides, Ordering, Less, Equal, Greater}
+use Rattle.std.specs.Ordering.{bool_cmp}
+use Rattle.std.specs.Cmp.{Equal-is, bool_cmp_total}
 use Rattle.std.specs.Cmp.Lexicographic.{slice_cmp}
 use Rattle.std.proofs.lemmas.Cmp.{tied_itself, int_cmp_total, nat_list_cmp_total}
-use Rattle.std.proofs.lemmas.Map.Lookups.{CmpEqualImpliesEq, exact_bytes, exact_signed}
+use Rattle.std.proofs.lemmas.Map.Lookups.{exact_bytes, exact_signed}
 use Rattle.pgq_base.specs.declared.value.Value.{Value}
 use Rattle.pgq_base.specs.declared.value.Value.TheVariants.{Null, Truth, Number, Text}
 use Rattle.pgq_base.specs.Values.{value_order}

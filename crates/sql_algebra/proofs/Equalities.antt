@@ -13,9 +13,10 @@ tested Equal h = refl
 tested Greater h = absurd (true≢false (sym h))
 
 from_order : (a b : Value) → (a ≡ Null → ⊥) → compared a b ≡ Some (value_order a b) → (is_true (equality_of (compared a b)) ≡ true) ↔ ((a ≡ b) × (a ≡ Null → ⊥))
-from_order a b some e =
-    (λ h. (exact_value a b (tested (value_order a b) (ap (λ o. is_true (equality_of o)) (sym e) ∙ h)), some),
-    λ p. ap (λ o. is_true (equality_of o)) e ∙ ap (λ o. is_true (equality_of (Some o))) (ap (value_order a) (sym p.0) ∙ value_itself a))
+from_order a b some e = (
+  λ h. (exact_value a b (tested (value_order a b) (ap (λ o. is_true (equality_of o)) (sym e) ∙ h)), some),
+  λ p. ap (λ o. is_true (equality_of o)) e ∙ ap (λ o. is_true (equality_of (Some o))) (ap (value_order a) (sym p.0) ∙ value_itself a),
+)
 
 from_null : (a : Value) → (a ≡ Null → ⊥) → (false ≡ true) ↔ ((a ≡ Null) × (a ≡ Null → ⊥))
 from_null a some = (λ h. absurd (true≢false (sym h)), λ p. absurd (some p.0))

@@ -10,12 +10,10 @@ ghost use Rattle.sql_algebra.specs.Meaning.{bag, equality_of, is_true};
 /// An equality is True exactly where its two values are equal and not Null.
 pub fn equality_tells()
     ensures { (a b : Value) → (is_true (equality_of (compared a b)) ≡ true) ↔ ((a ≡ b) × (a ≡ Null → ⊥)) }
-{
-}
+{}
 
 /// UNION ALL means the rows of the one query and then those of the other.
 pub fn selects_in_a_row()
     ensures { (tables : List TableNames) (xs ys : List Select) (instance : InstanceRows)
         → bag tables record { selects = xs ++ ys } instance ≡ bag tables record { selects = xs } instance ++ bag tables record { selects = ys } instance }
-{
-}
+{}

@@ -1,0 +1,23 @@
+-- What words ask for.
+use Rattle.std.specs.Prelude.{ℕ, List, [], ◌∷◌, cond, Option, None, Some, codes, bytes_eq}
+use Rattle.pgq_base.specs.Files.{IsAsked}
+use Rattle.pgq_program.specs.declared.words.Command.{Command}
+use Rattle.pgq_program.specs.declared.words.Command.TheVariants as c
+
+pub data Asked : Type 0 where
+  OfTranslate : List ℕ → List ℕ → Asked
+
+abbrev pub view : Command → Asked
+view (c.Translate schema query) = Asked.OfTranslate schema.now query.now
+
+-- `translate SCHEMA QUERY`; words of another form ask for nothing
+abbrev pub command_of : List (List ℕ) → Option Asked
+command_of [] = None
+command_of (command ∷ []) = None
+command_of (command ∷ a ∷ []) = None
+command_of (command ∷ a ∷ b ∷ []) = cond (bytes_eq command (codes "translate")) (Some (Asked.OfTranslate a b)) None
+command_of (command ∷ a ∷ b ∷ d ∷ more) = None
+
+-- each name of the command is asked by the words
+abbrev pub Asks : Asked → List (List ℕ) → Type 0
+Asks (Asked.OfTranslate a b) words = IsAsked a words × IsAsked b words

@@ -1,0 +1,19 @@
+//! The whole program over devices: what the words ask for, read from files and put on two sinks.
+#![tactic(auto)]
+
+mod answers;
+mod halt;
+mod lines;
+mod status;
+mod steps;
+mod telling;
+mod texts;
+mod top;
+mod words;
+
+pub use status::Status;
+pub use texts::translate_texts;
+pub use top::pgq;
+
+#[cfg(test)]
+mod tests;

@@ -1,0 +1,99 @@
+ghost use Rattle.std.specs.Prelude.{◌≡◌, ◌≤◌, IfSome, IfOk, IfErr, IsOkAnd, IsErrOf, None, Err, length};
+ghost use Rattle.multisets.specs.Bags.{IsIn};
+ghost use Rattle.graph_meaning.specs.Queries.{IsGraph, IsPattern, IsOfPattern};
+ghost use Rattle.pgq_base.specs.Files.{IsAsked};
+ghost use Rattle.pgq_program.specs.Commands.{command_of};
+ghost use Rattle.pgq_program.specs.Meaning.{Means};
+ghost use Rattle.pgq_program.specs.Steps.{Gives, HaltCause, IsHaltOf, text_at, graph_at, query_at, translate_due, asked_due};
+
+use crate::halt::Halt;
+use crate::texts::{TEXT_LIMIT, sql_text, too_large};
+use crate::words::{Command, read_words};
+use edge_texts::{find_fault, read_query, read_schema};
+use graph_meaning::{EdgeGraph, EdgeQuery};
+use pgq_base::{List, LoadStop, Role, Shelf, Text, load};
+use std::alloc::Global;
+
+fn text_of<F: Shelf>(alloc: Global, files: &mut F, role: Role, name: &str) -> Result<List<u8>, Halt>
+    requires { IsAsked name.now (F.words files.old) }
+    ensures words { F.words files.new ≡ F.words files.old }
+    ensures files { F.files files.new ≡ F.files files.old }
+    ensures cause { HaltCause (F.faults files.old) (F.faults files.new) result }
+    ensures told { IfSome (F.files files.old) (λ told. Gives (text_at role name.now told) result) }
+    ensures within { IfOk result (λ text. length text ≤ 1048576) }
+    ensures never { IsErrOf result Halt.Usage → ⊥ }
+{
+    match load(alloc, files, name, TEXT_LIMIT) {
+        Ok(text) => Ok(text),
+        Err(LoadStop::Failed) => Err(Halt::ReadFault),
+        Err(LoadStop::TooLong) => Err(Halt::Refused(too_large(role))),
+        Err(LoadStop::NoMemory) => Err(Halt::NoMemory),
+    }
+}
+
+fn graph_of<F: Shelf>(alloc: Global, files: &mut F, name: &str) -> Result<EdgeGraph, Halt>
+    requires { IsAsked name.now (F.words files.old) }
+    ensures words { F.words files.new ≡ F.words files.old }
+    ensures files { F.files files.new ≡ F.files files.old }
+    ensures cause { HaltCause (F.faults files.old) (F.faults files.new) result }
+    ensures told { IfSome (F.files files.old) (λ told. Gives (graph_at name.now told) result) }
+    ensures graph { IfOk result (λ graph. IsGraph graph) }
+    ensures never { IsErrOf result Halt.Usage → ⊥ }
+{
+    let text = text_of(alloc, files, Role::Schema, name)?;
+    Ok(read_schema(alloc, text.as_slice())?)
+}
+
+fn query_of<F: Shelf>(alloc: Global, files: &mut F, name: &str) -> Result<EdgeQuery, Halt>
+    requires { IsAsked name.now (F.words files.old) }
+    ensures words { F.words files.new ≡ F.words files.old }
+    ensures files { F.files files.new ≡ F.files files.old }
+    ensures cause { HaltCause (F.faults files.old) (F.faults files.new) result }
+    ensures told { IfSome (F.files files.old) (λ told. Gives (query_at name.now told) result) }
+    ensures never { IsErrOf result Halt.Usage → ⊥ }
+    ensures pattern { IfOk result (λ query. IsPattern query) }
+    ensures columns { IfOk result (λ query. (column : _) → IsIn column query.columns → IsOfPattern query column) }
+{
+    let text = text_of(alloc, files, Role::Query, name)?;
+    Ok(read_query(alloc, text.as_slice())?)
+}
+
+fn translate<F: Shelf>(
+    alloc: Global,
+    files: &mut F,
+    schema: &str,
+    query: &str,
+) -> Result<List<u8>, Halt>
+    requires schema { IsAsked schema.now (F.words files.old) }
+    requires query { IsAsked query.now (F.words files.old) }
+    ensures cause { HaltCause (F.faults files.old) (F.faults files.new) result }
+    ensures never { IsErrOf result Halt.Usage → ⊥ }
+    ensures means { IfOk result (λ text. IfSome (F.files files.old) (λ told. IsOkAnd (translate_due schema.now query.now told) (λ due. Means due.0 due.1 text))) }
+    ensures halt { IfErr result (λ halt. IfSome (F.files files.old) (λ told. IsHaltOf (translate_due schema.now query.now told) halt)) }
+{
+    let graph = graph_of(alloc, files, schema)?;
+    let query = query_of(alloc, files, query)?;
+    if let Some(refusal) = find_fault(&graph, &query) {
+        return Err(Halt::Refused(refusal));
+    }
+    Ok(sql_text(alloc, &graph, &query)?)
+}
+
+/// The text that the words ask for.
+pub(crate) fn answer<F: Shelf>(
+    alloc: Global,
+    words: &[Text],
+    files: &mut F,
+) -> Result<List<u8>, Halt>
+    requires { F.words files.old ≡ words.now }
+    ensures cause { HaltCause (F.faults files.old) (F.faults files.new) result }
+    ensures means { IfOk result (λ text. IfSome (F.files files.old) (λ told. IsOkAnd (asked_due (command_of words.now) told) (λ due. Means due.0 due.1 text))) }
+    ensures halt { IfErr result (λ halt. IfSome (F.files files.old) (λ told. IsHaltOf (asked_due (command_of words.now) told) halt)) }
+    ensures usage { command_of words.now ≡ None → result ≡ Err Halt.Usage }
+    ensures asked { IsErrOf result Halt.Usage → command_of words.now ≡ None }
+{
+    match read_words(words) {
+        None => Err(Halt::Usage),
+        Some(Command::Translate(schema, query)) => translate(alloc, files, schema, query),
+    }
+}

@@ -1,0 +1,91 @@
+ghost use Rattle.std.specs.Prelude.{◌≡◌, ◌⊎◌, ◌≤◌, [], None, Some, IfSome, Ok, Err, IsOk};
+ghost use Rattle.std.specs.Io.KnownBytes.{Appends};
+ghost use Rattle.pgq_base.specs.Causes.{Rose};
+ghost use Rattle.pgq_program.specs.declared.halt.Halt.TheVariants.{Refused as IsRefused};
+ghost use Rattle.pgq_program.specs.Commands.{command_of};
+ghost use Rattle.pgq_program.specs.Steps.{asked_due};
+ghost use Rattle.pgq_program.specs.Runs.{IsDue, AnswerCause, status_of, refusal_line};
+ghost use Rattle.pgq_program.specs.Tops.{Ran, Writes};
+
+use crate::answers::Answer;
+use crate::halt::Halt;
+use crate::lines::line_of;
+use crate::status::Status;
+use crate::steps::answer;
+use crate::telling::tell;
+use pgq_base::{Shelf, Sink, Text};
+use std::alloc::Global;
+
+/// Does what the words ask for, with the files of the shelf, and puts the outcome on the two sinks.
+///
+/// `translate SCHEMA QUERY` writes the SQL text that means the query over the tables of the schema. Words of
+/// another form are `Usage`. Things are looked at in this order: the words; the schema file, by its size
+/// and then its form; the query file in the same way; then the query's names. The first of them that
+/// is at fault gives the answer.
+///
+/// The whole text is made before its first byte is put on `out`. Under `Done` `out` receives the text and `err`
+/// nothing; under another status `out` receives nothing and `err` one line, unless a sink fails, which is
+/// `WriteFault` and leaves each sink with a prefix of its text.
+pub fn pgq<F: Shelf, S: Sink, E: Sink>(
+    alloc: Global,
+    words: &[Text],
+    files: &mut F,
+    out: &mut S,
+    err: &mut E,
+) -> Status
+    requires { F.words files.old ≡ words.now }
+
+    // Some answer was due and had its cause; by it, each sink has received its text, and under WriteFault a prefix of it.
+    ensures ran { Ran words.now (F.files files.old) (F.faults files.old) (F.faults files.new) result (S.received out.old) (S.received out.new) (S.faults out.old) (S.faults out.new)
+        (E.received err.old) (E.received err.new) (E.faults err.old) (E.faults err.new) }
+
+    // What is written means the query: over every instance that fits, the same multiset of rows as its answer.
+    ensures translated { result ≡ Status.Done → IfSome (F.files files.old) (λ told. Writes (asked_due (command_of words.now) told) (S.received out.old) (S.received out.new)) }
+
+    // Where a text is due and no count rose, one that means the query is written unless memory is refused.
+    ensures complete { IfSome (F.files files.old) (λ told. (due : _) → asked_due (command_of words.now) told ≡ Ok due
+        → (Rose (F.faults files.old) (F.faults files.new) → ⊥) → (Rose (S.faults out.old) (S.faults out.new) → ⊥) → (Rose (E.faults err.old) (E.faults err.new) → ⊥)
+        → ((result ≡ Status.Done) × Writes (asked_due (command_of words.now) told) (S.received out.old) (S.received out.new)) ⊎ (result ≡ Status.NoMemory)) }
+
+    // Where a refusal is due and no count rose, its line is written unless memory is refused.
+    ensures refused { IfSome (F.files files.old) (λ told. (refusal : _) → asked_due (command_of words.now) told ≡ Err (IsRefused refusal)
+        → (Rose (F.faults files.old) (F.faults files.new) → ⊥) → (Rose (S.faults out.old) (S.faults out.new) → ⊥) → (Rose (E.faults err.old) (E.faults err.new) → ⊥)
+        → ((result ≡ Status.Refused) × Appends (E.received err.old) (E.received err.new) (refusal_line refusal)) ⊎ (result ≡ Status.NoMemory)) }
+
+    // Usage comes exactly by the form of the words, but for want of memory and a fault of a sink.
+    ensures usage { result ≡ Status.Usage → command_of words.now ≡ None }
+    ensures form { command_of words.now ≡ None → (result ≡ Status.Usage) ⊎ (result ≡ Status.NoMemory) ⊎ (result ≡ Status.WriteFault) }
+
+    // The outside is blamed only where a count rose, or stands at its last value, and no count rose under another answer.
+    ensures read { result ≡ Status.ReadFault → Rose (F.faults files.old) (F.faults files.new) }
+    ensures write { result ≡ Status.WriteFault → Rose (S.faults out.old) (S.faults out.new) ⊎ Rose (E.faults err.old) (E.faults err.new) }
+    ensures quiet { (result ≡ Status.Done) ⊎ (result ≡ Status.Usage) ⊎ (result ≡ Status.Refused)
+        → (F.faults files.new ≡ F.faults files.old) × (S.faults out.new ≡ S.faults out.old) × (E.faults err.new ≡ E.faults err.old) }
+
+    // Nothing is on `out` under another status than Done, and nothing on `err` under Done.
+    ensures nothing { (result ≡ Status.Done → ⊥) → (result ≡ Status.WriteFault → ⊥) → Appends (S.received out.old) (S.received out.new) [] }
+    ensures silent { result ≡ Status.Done → Appends (E.received err.old) (E.received err.new) [] }
+{
+    let said = decide(alloc, words, files);
+    tell(&said, out, err)
+}
+
+// What there is to say. No sink is seen before it is decided.
+fn decide<F: Shelf>(alloc: Global, words: &[Text], files: &mut F) -> Answer
+    requires { F.words files.old ≡ words.now }
+    ensures cause { AnswerCause (F.faults files.old) (F.faults files.new) result }
+    ensures due { IfSome (F.files files.old) (λ told. IsDue words.now told result) }
+    ensures form { command_of words.now ≡ None → status_of result ≡ Status.Usage }
+    ensures usage { status_of result ≡ Status.Usage → command_of words.now ≡ None }
+{
+    match answer(alloc, words, files) {
+        Ok(text) => Answer::Done(text),
+        Err(Halt::Refused(refusal)) => match line_of(alloc, &refusal) {
+            Ok(line) => Answer::Refused(line),
+            Err(_) => Answer::NoMemory,
+        },
+        Err(Halt::Usage) => Answer::Usage,
+        Err(Halt::ReadFault) => Answer::ReadFault,
+        Err(Halt::NoMemory) => Answer::NoMemory,
+    }
+}

@@ -1,0 +1,12 @@
+mod QuoteLemmas
+mod Utf8Lemmas
+mod Runs
+mod CommentLemmas
+mod Fronts
+mod Symbols
+mod Bounds
+mod Places
+mod Finds
+mod Cuts
+mod Uniqueness
+mod Decisions
