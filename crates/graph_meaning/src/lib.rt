@@ -6,5 +6,5 @@ mod laws;
 mod query;
 
 pub use graph::{Column, ColumnType, EdgeGraph, Table};
-pub use laws::elements_stand_once;
+pub use laws::{elements_stand_once, empty_tables_fit};
 pub use query::{EdgeQuery, Output};
