@@ -3,11 +3,11 @@ use Rattle.std.proofs.Common.{◌≡◌, ◌≢◌, ℕ, ◌≤◌, Bool, true, 
 use Rattle.std.specs.List.{list_all, list_any}
 use Rattle.std.proofs.lemmas.Slice.Eq.{bytes_eq-Decides}
 use Rattle.multisets.specs.Bags.{IsIn, IsWithoutRepeats}
-use Rattle.graph_meaning.specs.declared.graph.Column.{Column}
-use Rattle.graph_meaning.specs.declared.graph.Table.{Table}
-use Rattle.graph_meaning.specs.declared.graph.EdgeGraph.{EdgeGraph}
-use Rattle.graph_meaning.specs.Answers.{column_names}
-use Rattle.graph_meaning.specs.Queries.{IsGraph}
+use Rattle.edge_meaning.specs.declared.graph.Column.{Column}
+use Rattle.edge_meaning.specs.declared.graph.Table.{Table}
+use Rattle.edge_meaning.specs.declared.graph.EdgeGraph.{EdgeGraph}
+use Rattle.edge_meaning.specs.Answers.{column_names}
+use Rattle.edge_meaning.specs.Queries.{IsGraph}
 use Rattle.edge_texts.specs.Schemas.{columns_differ, is_proper, agrees_with}
 
 pub both : (a b : Bool) → (a && b) ≡ true → (a ≡ true) × (b ≡ true)

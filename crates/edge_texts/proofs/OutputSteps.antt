@@ -1,6 +1,6 @@
 -- Columns of a query that are read one by one.
 use Rattle.std.proofs.Common.{◌≡◌, ℕ, zero, suc, ◌-◌, true, cond, List, [], ◌∷◌, ◌++◌, Option, None, Some, refl, sym, ap, ap₂, ◌∙◌, append_assoc, arith}
-use Rattle.graph_meaning.specs.declared.query.Output.{Output}
+use Rattle.edge_meaning.specs.declared.query.Output.{Output}
 use Rattle.edge_texts.specs.declared.token.Token.{Token}
 use Rattle.edge_texts.specs.Forms.{then, is_next}
 use Rattle.edge_texts.specs.Queries.{next_output, outputs_from, before_outputs}

@@ -3,9 +3,9 @@ use Rattle.std.proofs.Common.{◌≡◌, ◌≢◌, ℕ, Bool, true, false, not,
 use Rattle.std.specs.List.{list_all}
 use Rattle.std.proofs.lemmas.Slice.Eq.{bytes_eq-Decides}
 use Rattle.multisets.specs.Bags.{IsIn}
-use Rattle.graph_meaning.specs.declared.query.EdgeQuery.{EdgeQuery}
-use Rattle.graph_meaning.specs.declared.query.Output.{Output}
-use Rattle.graph_meaning.specs.Queries.{IsPattern, IsOfPattern}
+use Rattle.edge_meaning.specs.declared.query.EdgeQuery.{EdgeQuery}
+use Rattle.edge_meaning.specs.declared.query.Output.{Output}
+use Rattle.edge_meaning.specs.Queries.{IsPattern, IsOfPattern}
 use Rattle.edge_texts.specs.Queries.{is_proper, is_of_pattern, outputs_differ}
 use Rattle.edge_texts.proofs.Graphs.{both, not_true}
 

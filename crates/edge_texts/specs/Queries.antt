@@ -4,10 +4,10 @@ use Rattle.std.specs.List.{list_all, list_any}
 use Rattle.pgq_base.specs.declared.refusal.Refusal.{Refusal}
 use Rattle.pgq_base.specs.declared.refusal.Role.TheVariants as r
 use Rattle.pgq_base.specs.declared.code.Code.TheVariants.{UnknownGraph, UnknownProperty}
-use Rattle.graph_meaning.specs.declared.graph.Column.{Column}
-use Rattle.graph_meaning.specs.declared.graph.EdgeGraph.{EdgeGraph}
-use Rattle.graph_meaning.specs.declared.query.EdgeQuery.{EdgeQuery}
-use Rattle.graph_meaning.specs.declared.query.Output.{Output}
+use Rattle.edge_meaning.specs.declared.graph.Column.{Column}
+use Rattle.edge_meaning.specs.declared.graph.EdgeGraph.{EdgeGraph}
+use Rattle.edge_meaning.specs.declared.query.EdgeQuery.{EdgeQuery}
+use Rattle.edge_meaning.specs.declared.query.Output.{Output}
 use Rattle.edge_texts.specs.declared.token.Token.{Token}
 use Rattle.edge_texts.specs.declared.form.Named.{Named}
 use Rattle.edge_texts.specs.Tokens.{tokens_of}

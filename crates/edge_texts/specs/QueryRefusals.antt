@@ -2,7 +2,7 @@
 use Rattle.std.specs.Prelude.{ℕ, List, Result}
 use Rattle.pgq_base.specs.declared.refusal.Role.TheVariants.{Query}
 use Rattle.pgq_base.specs.declared.refusal.Refusal.{Refusal}
-use Rattle.graph_meaning.specs.declared.query.EdgeQuery.{EdgeQuery}
+use Rattle.edge_meaning.specs.declared.query.EdgeQuery.{EdgeQuery}
 use Rattle.edge_texts.specs.Queries.{query_of}
 use Rattle.edge_texts.specs.Refusals.{formed}
 

@@ -9,7 +9,7 @@ use Rattle.pgq_base.specs.declared.refusal.Detail.TheVariants.{Nothing}
 use Rattle.pgq_base.specs.declared.refusal.Refusal.{Refusal}
 use Rattle.pgq_base.specs.declared.refusal.Stop.{Stop}
 use Rattle.pgq_base.specs.declared.refusal.Stop.TheVariants as s
-use Rattle.graph_meaning.specs.declared.graph.EdgeGraph.{EdgeGraph}
+use Rattle.edge_meaning.specs.declared.graph.EdgeGraph.{EdgeGraph}
 use Rattle.edge_texts.specs.declared.form.Miss.{Miss}
 use Rattle.edge_texts.specs.declared.form.Miss.TheVariants as m
 use Rattle.edge_texts.specs.Schemas.{schema_of}

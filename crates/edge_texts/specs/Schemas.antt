@@ -1,12 +1,12 @@
 -- The schema texts of one vertex table, one edge table and a graph over them.
 use Rattle.std.specs.Prelude.{ℕ, zero, suc, ◌+◌, ◌-◌, ◌*◌, nat_le, nat_eq, Bool, true, false, not, ◌&&◌, ◌||◌, cond, List, [], ◌∷◌, ◌++◌, map, fold, length, drop, Option, None, Some, slice_index_or, bytes_eq, codes}
 use Rattle.std.specs.List.{list_all, list_any}
-use Rattle.graph_meaning.specs.declared.graph.ColumnType.{ColumnType}
-use Rattle.graph_meaning.specs.declared.graph.ColumnType.TheVariants.{Integer, VarChar}
-use Rattle.graph_meaning.specs.declared.graph.Column.{Column}
-use Rattle.graph_meaning.specs.declared.graph.EdgeGraph.{EdgeGraph}
-use Rattle.graph_meaning.specs.declared.graph.Table.{Table}
-use Rattle.graph_meaning.specs.Answers.{column_names}
+use Rattle.edge_meaning.specs.declared.graph.ColumnType.{ColumnType}
+use Rattle.edge_meaning.specs.declared.graph.ColumnType.TheVariants.{Integer, VarChar}
+use Rattle.edge_meaning.specs.declared.graph.Column.{Column}
+use Rattle.edge_meaning.specs.declared.graph.EdgeGraph.{EdgeGraph}
+use Rattle.edge_meaning.specs.declared.graph.Table.{Table}
+use Rattle.edge_meaning.specs.Answers.{column_names}
 use Rattle.edge_texts.specs.declared.token.Kind.{Kind}
 use Rattle.edge_texts.specs.declared.token.Kind.TheVariants as k
 use Rattle.edge_texts.specs.declared.token.Token.{Token}

@@ -4,7 +4,7 @@ ghost use Rattle.edge_texts.specs.Schemas.{number_of, length_in, length_of, type
 
 use crate::form::{Cursor, Item, Miss, expect, is_mark, is_next, is_word, take_name};
 use crate::token::{Kind, Token};
-use graph_meaning::{Column, ColumnType};
+use edge_meaning::{Column, ColumnType};
 use pgq_base::List;
 use std::alloc::Global;
 

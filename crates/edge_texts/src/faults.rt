@@ -3,7 +3,7 @@ ghost use Rattle.edge_texts.specs.Refusals.{refusal_at};
 ghost use Rattle.edge_texts.specs.Queries.{has_column, is_known, first_unknown, first_fault};
 
 use crate::schema::same_name;
-use graph_meaning::{Column, EdgeGraph, EdgeQuery, Output};
+use edge_meaning::{Column, EdgeGraph, EdgeQuery, Output};
 use pgq_base::{Code, Detail, Name, Refusal, Role, Span};
 
 fn refusal(span: Span, code: Code) -> Refusal

@@ -3,7 +3,7 @@ ghost use Rattle.edge_texts.specs.Forms.{Reads};
 ghost use Rattle.edge_texts.specs.Queries.{output_from, next_output, outputs_from, before_outputs, more_outputs, all_outputs};
 
 use crate::form::{Cursor, Item, Miss, expect, is_next, take_name};
-use graph_meaning::Output;
+use edge_meaning::Output;
 use pgq_base::{List, NoMemory};
 use std::alloc::Global;
 

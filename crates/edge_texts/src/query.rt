@@ -1,7 +1,7 @@
 ghost use Rattle.std.specs.Prelude.{◌≡◌, ◌≤◌, IfOk, length, bytes_eq, not};
 ghost use Rattle.std.specs.List.{list_any, list_all};
 ghost use Rattle.multisets.specs.Bags.{IsIn};
-ghost use Rattle.graph_meaning.specs.Queries.{IsPattern, IsOfPattern};
+ghost use Rattle.edge_meaning.specs.Queries.{IsPattern, IsOfPattern};
 ghost use Rattle.edge_texts.specs.Forms.{Reads};
 ghost use Rattle.edge_texts.specs.Queries.{pattern_from, with_columns, query_from, is_of_pattern, outputs_differ, is_proper, ended, query_of};
 ghost use Rattle.edge_texts.specs.Refusals.{Gives, Spelled};
@@ -12,7 +12,7 @@ use crate::lexing::tokens;
 use crate::outputs::take_outputs;
 use crate::schema::{not_of_form, same_name};
 use crate::token::Token;
-use graph_meaning::{EdgeQuery, Output};
+use edge_meaning::{EdgeQuery, Output};
 use pgq_base::{List, Name, Role, Stop};
 use std::alloc::Global;
 

@@ -1,6 +1,6 @@
 ghost use Rattle.std.specs.Prelude.{◌≡◌, ◌≤◌, IfOk, length, bytes_eq};
 ghost use Rattle.std.specs.List.{list_any, list_all};
-ghost use Rattle.graph_meaning.specs.Queries.{IsGraph};
+ghost use Rattle.edge_meaning.specs.Queries.{IsGraph};
 ghost use Rattle.edge_texts.specs.Schemas.{columns_differ, is_same_word, agrees_with, is_proper, is_end, statements_from, whole, proper, schema_of};
 ghost use Rattle.edge_texts.specs.Refusals.{Gives, Spelled, not_of_form, schema_due};
 
@@ -8,7 +8,7 @@ use crate::form::{Cursor, Miss, is_mark};
 use crate::lexing::tokens;
 use crate::statements::take_statements;
 use crate::token::Token;
-use graph_meaning::{Column, ColumnType, EdgeGraph};
+use edge_meaning::{Column, ColumnType, EdgeGraph};
 use pgq_base::{Code, Detail, List, Name, NoMemory, Refusal, Role, Span, Stop};
 use std::alloc::Global;
 

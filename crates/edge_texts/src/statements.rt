@@ -4,7 +4,7 @@ ghost use Rattle.edge_texts.specs.Schemas.{vertices_from, link_from, edges_from,
 
 use crate::columns::take_columns;
 use crate::form::{Cursor, Item, Miss, Named, expect, take_name};
-use graph_meaning::{Column, ColumnType, EdgeGraph, Table};
+use edge_meaning::{Column, ColumnType, EdgeGraph, Table};
 use pgq_base::{List, Name, NoMemory};
 use std::alloc::Global;
 

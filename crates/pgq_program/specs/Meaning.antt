@@ -3,13 +3,13 @@
 use Rattle.std.specs.Prelude.{◌≡◌, ℕ, List}
 use Rattle.pgq_base.specs.Instances.{InstanceRows}
 use Rattle.multisets.specs.Bags.{IsSameMultiset}
-use Rattle.graph_meaning.specs.declared.graph.EdgeGraph.{EdgeGraph}
-use Rattle.graph_meaning.specs.declared.query.EdgeQuery.{EdgeQuery}
-use Rattle.graph_meaning.specs.Answers.{answer, answer_names, tables_of}
-use Rattle.graph_meaning.specs.Fits.{Fits}
-use Rattle.sql_algebra.specs.declared.tree.SqlQuery.{SqlQuery}
-use Rattle.sql_algebra.specs.Layout.{layout}
-use Rattle.sql_algebra.specs.Meaning.{bag, names_of}
+use Rattle.edge_meaning.specs.declared.graph.EdgeGraph.{EdgeGraph}
+use Rattle.edge_meaning.specs.declared.query.EdgeQuery.{EdgeQuery}
+use Rattle.edge_meaning.specs.Answers.{answer, answer_names, tables_of}
+use Rattle.edge_meaning.specs.Fits.{Fits}
+use Rattle.edge_algebra.specs.declared.tree.SqlQuery.{SqlQuery}
+use Rattle.edge_algebra.specs.Layout.{layout}
+use Rattle.edge_algebra.specs.Meaning.{bag, names_of}
 
 pub record Means (graph : EdgeGraph) (query : EdgeQuery) (text : List ℕ) : Type 0 where
   pub sql : SqlQuery

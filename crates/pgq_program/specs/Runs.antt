@@ -3,7 +3,7 @@ use Rattle.std.specs.Prelude.{◌≡◌, ◌==◌, ℕ, ◌≤◌, ◌⊎◌, co
 use Rattle.std.specs.List.{position}
 use Rattle.std.specs.Io.KnownBytes.{Appends}
 use Rattle.pgq_base.specs.Causes.{Rose}
-use Rattle.pgq_base.specs.Codes.{number_of, message_of, codes_in_use}
+use Rattle.pgq_base.specs.Codes.{number_of, message_of}
 use Rattle.pgq_base.specs.Files.{AppendsPrefix}
 use Rattle.pgq_base.specs.declared.code.Code.{Code}
 use Rattle.pgq_base.specs.declared.refusal.Refusal.{Refusal}
@@ -26,15 +26,11 @@ role_text Query = codes "query"
 role_text Sql = codes "sql"
 role_text Table = codes "table"
 
--- the text of a code that is in use
-abbrev pub shown_message : Code → List ℕ
-shown_message code = cond (is_some (position (λ n. n == number_of code) (map number_of codes_in_use))) (message_of code) []
-
 -- <role>:<from>-<to>: <code> <text>
 unfoldable pub refusal_line : Refusal → List ℕ
 refusal_line refusal =
     role_text refusal.role ++ codes ":" ++ decimal refusal.span.from ++ codes "-" ++ decimal refusal.span.to ++ codes ": " ++ decimal (number_of refusal.code) ++ codes " "
-    ++ shown_message refusal.code ++ codes "\n"
+    ++ message_of refusal.code ++ codes "\n"
 
 abbrev pub usage_line : List ℕ
 usage_line =

@@ -7,8 +7,8 @@ use Rattle.pgq_base.specs.declared.refusal.Role.TheVariants.{Schema, Query}
 use Rattle.pgq_base.specs.declared.refusal.Refusal.{Refusal}
 use Rattle.pgq_base.specs.declared.refusal.Stop.{Stop}
 use Rattle.pgq_base.specs.declared.refusal.Stop.TheVariants as s
-use Rattle.graph_meaning.specs.declared.graph.EdgeGraph.{EdgeGraph}
-use Rattle.graph_meaning.specs.declared.query.EdgeQuery.{EdgeQuery}
+use Rattle.edge_meaning.specs.declared.graph.EdgeGraph.{EdgeGraph}
+use Rattle.edge_meaning.specs.declared.query.EdgeQuery.{EdgeQuery}
 use Rattle.edge_texts.specs.Refusals.{schema_due}
 use Rattle.edge_texts.specs.QueryRefusals.{query_due}
 use Rattle.pgq_program.specs.declared.halt.Halt.{Halt}

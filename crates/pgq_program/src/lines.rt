@@ -1,5 +1,6 @@
 ghost use Rattle.std.specs.Prelude.{◌≡◌, ◌++◌, IfOk, OnOk, decimal, codes};
-ghost use Rattle.pgq_program.specs.Runs.{refusal_line, role_text, shown_message};
+ghost use Rattle.pgq_base.specs.Codes.{message_of};
+ghost use Rattle.pgq_program.specs.Runs.{refusal_line, role_text};
 
 use pgq_base::{Code, List, NoMemory, Refusal, Role};
 use std::alloc::Global;
@@ -24,12 +25,9 @@ fn put_number(alloc: Global, line: &mut List<u8>, number: u32) -> Result<(), NoM
 }
 
 fn put_message(line: &mut List<u8>, code: Code) -> Result<(), NoMemory>
-    ensures { OnOk result (line.new ≡ line.old ++ shown_message code) }
+    ensures { OnOk result (line.new ≡ line.old ++ message_of code) }
 {
-    match message_place(code) {
-        Some(place) => line.extend(messages().word(place)),
-        None => Ok(()),
-    }
+    line.extend(messages().word(message_place(code)))
 }
 
 /// The line of a refusal, with its newline.

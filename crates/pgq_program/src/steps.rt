@@ -1,6 +1,6 @@
 ghost use Rattle.std.specs.Prelude.{◌≡◌, ◌≤◌, IfSome, IfOk, IfErr, IsOkAnd, IsErrOf, None, Err, length};
 ghost use Rattle.multisets.specs.Bags.{IsIn};
-ghost use Rattle.graph_meaning.specs.Queries.{IsGraph, IsPattern, IsOfPattern};
+ghost use Rattle.edge_meaning.specs.Queries.{IsGraph, IsPattern, IsOfPattern};
 ghost use Rattle.pgq_base.specs.Files.{IsAsked};
 ghost use Rattle.pgq_program.specs.Commands.{command_of};
 ghost use Rattle.pgq_program.specs.Meaning.{Means};
@@ -10,7 +10,7 @@ use crate::halt::Halt;
 use crate::texts::{TEXT_LIMIT, sql_text, too_large};
 use crate::words::{Command, read_words};
 use edge_texts::{find_fault, read_query, read_schema};
-use graph_meaning::{EdgeGraph, EdgeQuery};
+use edge_meaning::{EdgeGraph, EdgeQuery};
 use pgq_base::{List, LoadStop, Role, Shelf, Text, load};
 use std::alloc::Global;
 

@@ -1,5 +1,5 @@
 use Rattle.std.proofs.Common.{◌≡◌, sym, ap, subst, ◌∙◌, arith, List, [], ◌∷◌, ◌-◌, length, length-append}
-use Rattle.graph_meaning.specs.declared.graph.Column.{Column}
+use Rattle.edge_meaning.specs.declared.graph.Column.{Column}
 use Rattle.edge_texts.specs.Schemas.{columns_from, before_columns}
 use Rattle.edge_texts.proofs.ColumnSteps.{column_step}
 use Rattle.edge_texts.proofs.columns.take_columns.Goals as goal

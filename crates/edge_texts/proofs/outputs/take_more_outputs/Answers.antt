@@ -1,5 +1,5 @@
 use Rattle.std.proofs.Common.{◌≡◌, sym, subst, ◌∙◌, List, ◌-◌}
-use Rattle.graph_meaning.specs.declared.query.Output.{Output}
+use Rattle.edge_meaning.specs.declared.query.Output.{Output}
 use Rattle.edge_texts.specs.Queries.{outputs_from, before_outputs}
 use Rattle.edge_texts.proofs.OutputSteps.{output_step}
 use Rattle.edge_texts.proofs.outputs.take_more_outputs.Goals as goal

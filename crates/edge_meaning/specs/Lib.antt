@@ -1,0 +1,5 @@
+pub mod Answers
+pub mod Fits
+pub mod Queries
+pub mod View
+pub mod Walks

@@ -1,0 +1,6 @@
+//! The text of SQL queries.
+#![tactic(auto)]
+
+mod printing;
+
+pub use printing::print;
