@@ -53,17 +53,17 @@ last_digits_value (suc count) n before =
 own : IsNumeralModel (λ ds. list_all is_ascii_digit ds ≡ true) number_value
 own = numerals_by_fold _ (search rules) number_from (search rules)
 
-pub decimal_digits : (n : ℕ) → n < 2 ^ 64 → list_all is_ascii_digit (decimal n) ≡ true
-decimal_digits n h = digits_decimal own n h
+pub digits-decimal : (n : ℕ) → n < 2 ^ 64 → list_all is_ascii_digit (decimal n) ≡ true
+digits-decimal n h = digits_decimal own n h
 
-pub decimal_value : (n : ℕ) → n < 2 ^ 64 → number_value (decimal n) ≡ n
-decimal_value n h = digits_value-decimal own n h
+pub number_value-decimal : (n : ℕ) → n < 2 ^ 64 → number_value (decimal n) ≡ n
+number_value-decimal n h = digits_value-decimal own n h
 
 -- ---- the digits of a size
 
 pub size_digits_value : (n s : ℕ) → n / 10 ^ s < 2 ^ 64 → number_value (whole_digits n s ++ fraction_digits n s) ≡ n
 size_digits_value n s h =
-    fold-append _ 0 (whole_digits n s) (fraction_digits n s) ∙ ap (λ w. number_from w (fraction_digits n s)) (decimal_value (n / 10 ^ s) h)
+    fold-append _ 0 (whole_digits n s) (fraction_digits n s) ∙ ap (λ w. number_from w (fraction_digits n s)) (number_value-decimal (n / 10 ^ s) h)
     ∙ last_digits_value s n (n / 10 ^ s) ∙ omega (arith, div-add-mod n (10 ^ s), mul_comm (n / 10 ^ s) (10 ^ s))
 
 pub lowest_itself : (n s : ℕ) → (s == 0 || not (n % 10 == 0)) ≡ true → lowest n s ≡ (n, s)
@@ -123,7 +123,7 @@ digits_of_size (n, s) h =
     let second = both (nat_lt n (10 ^ 18)) _ first.1 in
     let fits : n / 10 ^ s < 2 ^ 64 = quotient_fits n s (below n (10 ^ 18) second.0) in
     record {
-      before = decimal_digits (n / 10 ^ s) fits;
+      before = digits-decimal (n / 10 ^ s) fits;
       some = decimal_nonempty (n / 10 ^ s) fits;
       behind = last_digits_are s n;
       scale = length-last_digits s n;
