@@ -1,4 +1,4 @@
-ghost use Rattle.std.specs.Prelude.{◌≡◌, ℕ, ◌<◌, ◌×◌, is_some};
+ghost use Rattle.std.specs.Prelude.{◌≡◌, ℕ, ◌<◌, is_some};
 ghost use Rattle.sql_lexer.specs.declared.token.Token.{Token as Lexeme};
 ghost use Rattle.token_marks.specs.declared.mark.Mark.{Mark as TokenMark};
 ghost use Rattle.token_reading.specs.Tokens.{class, class_count, is_mark, is_name, is_word, name_bytes, word_bytes, small_number};

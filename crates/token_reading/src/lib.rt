@@ -6,6 +6,6 @@ mod reading;
 
 pub use laws::classes_tell;
 pub use reading::{
-    TOO_DEEP, Tokens, UNEXPECTED, blocked, class_of, expect, name, next_is, next_is_name, next_is_word,
-    number, skip_name, word,
+    TOO_DEEP, Tokens, UNEXPECTED, blocked, class_of, expect, name, next_is, next_is_name,
+    next_is_word, number, skip_name, word,
 };
