@@ -4,7 +4,7 @@ use Rattle.std.specs.List.{list_any}
 use Rattle.std.specs.Ordering.{is_eq}
 use Rattle.std.specs.Cmp.Lexicographic.{slice_cmp}
 use Rattle.pgq_base.specs.declared.value.Value.{Value}
-use Rattle.pgq_base.specs.declared.value.Value.TheVariants.{Null, Truth, Number, Text}
+use Rattle.pgq_base.specs.declared.value.Value.TheVariants.{Null, Truth, Number, Decimal, Text, Date}
 use Rattle.pgq_base.specs.Values.{value_order, compared}
 use Rattle.pgq_base.specs.Instances.{RowValues, TableRows, value_at, values_at, same_value, same_values}
 use Rattle.pgq_base.proofs.ValueOrder.{same_value_decides, same_values_decides}
@@ -27,15 +27,33 @@ joins-same Null b = refl
 joins-same (Truth a) Null = refl
 joins-same (Truth a) (Truth b) = tested (value_order (Truth a) (Truth b))
 joins-same (Truth a) (Number b) = refl
+joins-same (Truth a) (Decimal b) = refl
 joins-same (Truth a) (Text b) = refl
+joins-same (Truth a) (Date b) = refl
 joins-same (Number a) Null = refl
 joins-same (Number a) (Truth b) = refl
 joins-same (Number a) (Number b) = tested (value_order (Number a) (Number b))
+joins-same (Number a) (Decimal b) = tested (value_order (Number a) (Decimal b))
 joins-same (Number a) (Text b) = refl
+joins-same (Number a) (Date b) = refl
+joins-same (Decimal a) Null = refl
+joins-same (Decimal a) (Truth b) = refl
+joins-same (Decimal a) (Number b) = tested (value_order (Decimal a) (Number b))
+joins-same (Decimal a) (Decimal b) = tested (value_order (Decimal a) (Decimal b))
+joins-same (Decimal a) (Text b) = refl
+joins-same (Decimal a) (Date b) = refl
 joins-same (Text a) Null = refl
 joins-same (Text a) (Truth b) = refl
 joins-same (Text a) (Number b) = refl
+joins-same (Text a) (Decimal b) = refl
 joins-same (Text a) (Text b) = tested (value_order (Text a) (Text b))
+joins-same (Text a) (Date b) = refl
+joins-same (Date a) Null = refl
+joins-same (Date a) (Truth b) = refl
+joins-same (Date a) (Number b) = refl
+joins-same (Date a) (Decimal b) = refl
+joins-same (Date a) (Text b) = refl
+joins-same (Date a) (Date b) = tested (value_order (Date a) (Date b))
 
 single_order : (a b : Value) (o : Ordering) → value_order a b ≡ o → is_eq (slice_cmp value_order (a ∷ []) (b ∷ [])) ≡ is_eq o
 single_order a b Less e = rw e refl

@@ -13,7 +13,7 @@ use Rattle.edge_meaning.specs.declared.query.EdgeQuery.{EdgeQuery}
 use Rattle.edge_meaning.specs.declared.query.Output.{Output}
 use Rattle.edge_meaning.specs.View.{Identity, identity_of, key_columns, is_null, meets, is_edge, edge_of, edges, vertices}
 use Rattle.edge_meaning.specs.Walks.{Walk, walks, extended, same_identity}
-use Rattle.edge_meaning.specs.Answers.{Tags, tags_of, variable_place, elements_of, property_value, reads, row_with, column_names, answer_row, answer, tables_of}
+use Rattle.edge_meaning.specs.Answers.{Tags, tags_of, variable_place, elements_of, property_value, reads, row_with, column_names, column_name_at, answer_row, answer, tables_of}
 use Rattle.edge_meaning.specs.Answers as graph_side
 use Rattle.edge_meaning.specs.Fits.{Fits}
 use Rattle.edge_meaning.specs.Queries.{IsGraph, IsPattern, IsOfPattern}
@@ -21,7 +21,7 @@ use Rattle.edge_algebra.specs.declared.tree.FromItem.{FromItem}
 use Rattle.edge_algebra.specs.declared.tree.ColumnLeaf.{ColumnLeaf}
 use Rattle.edge_algebra.specs.Meaning.{columns_of, table_place, tuples, passes, output_row, select_rows, bag}
 use Rattle.edge_algebra.specs.Meaning as sql_side
-use Rattle.edge_lowering.specs.Lowered.{source_alias, edge_alias, target_alias, alias_of, column_at, select_column, from_items, reference, lowered_select, lowered}
+use Rattle.edge_lowering.specs.Lowered.{source_alias, edge_alias, target_alias, alias_of, select_column, from_items, reference, lowered_select, lowered}
 use Rattle.edge_lowering.proofs.Joins.{joins, joins-same, same_single, key_of, same_is, same_itself, is_met, row_with-member, member_met, matching, matching-one}
 use Rattle.edge_lowering.proofs.Lists.{picked, flat_map-each, flat_map-none, map-each, append-nil, picked-flat_map, picked-map, picked-one, map-again, product-three, given, filter_map-picked}
 
@@ -86,17 +86,17 @@ module _ (graph : EdgeGraph) (query : EdgeQuery) (well : IsGraph graph) (pattern
     at_target column = ap (λ names. value_at c (place_of column names)) vertex_columns_are
 
     -- the two conjuncts compare the edge's references with the keys
-    first_key : at source_alias (column_at graph.vertices 0) ≡ value_at a 0
-    first_key = at_source (column_at graph.vertices 0) ∙ ap (value_at a) (place_of-own (column_names graph.vertices) 0 well.vertex_names (rw length-map (omega (arith, well.vertex_columns))))
+    first_key : at source_alias (column_name_at graph.vertices 0) ≡ value_at a 0
+    first_key = at_source (column_name_at graph.vertices 0) ∙ ap (value_at a) (place_of-own (column_names graph.vertices) 0 well.vertex_names (rw length-map (omega (arith, well.vertex_columns))))
 
-    first_reference : at edge_alias (column_at graph.edges 1) ≡ value_at b 1
-    first_reference = at_edge (column_at graph.edges 1) ∙ ap (value_at b) (place_of-own (column_names graph.edges) 1 well.edge_names (rw length-map (omega (arith, well.edge_columns))))
+    first_reference : at edge_alias (column_name_at graph.edges 1) ≡ value_at b 1
+    first_reference = at_edge (column_name_at graph.edges 1) ∙ ap (value_at b) (place_of-own (column_names graph.edges) 1 well.edge_names (rw length-map (omega (arith, well.edge_columns))))
 
-    second_key : at target_alias (column_at graph.vertices 0) ≡ value_at c 0
-    second_key = at_target (column_at graph.vertices 0) ∙ ap (value_at c) (place_of-own (column_names graph.vertices) 0 well.vertex_names (rw length-map (omega (arith, well.vertex_columns))))
+    second_key : at target_alias (column_name_at graph.vertices 0) ≡ value_at c 0
+    second_key = at_target (column_name_at graph.vertices 0) ∙ ap (value_at c) (place_of-own (column_names graph.vertices) 0 well.vertex_names (rw length-map (omega (arith, well.vertex_columns))))
 
-    second_reference : at edge_alias (column_at graph.edges 2) ≡ value_at b 2
-    second_reference = at_edge (column_at graph.edges 2) ∙ ap (value_at b) (place_of-own (column_names graph.edges) 2 well.edge_names (rw length-map (omega (arith, well.edge_columns))))
+    second_reference : at edge_alias (column_name_at graph.edges 2) ≡ value_at b 2
+    second_reference = at_edge (column_name_at graph.edges 2) ∙ ap (value_at b) (place_of-own (column_names graph.edges) 2 well.edge_names (rw length-map (omega (arith, well.edge_columns))))
 
     passing : passes tables (lowered_select graph query) tuple ≡ (joins (value_at b 1) (value_at a 0) && (joins (value_at b 2) (value_at c 0) && true))
     passing = ap₂ (λ x y. x && (y && true)) (ap₂ joins first_reference first_key) (ap₂ joins second_reference second_key)

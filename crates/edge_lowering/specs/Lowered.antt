@@ -1,10 +1,9 @@
 -- The select of the pattern (source)-[edge]->(target): three tables, joined by the edge's two references.
-use Rattle.std.specs.Prelude.{ℕ, cond, List, [], ◌∷◌, map, codes, bytes_eq, slice_index_or}
-use Rattle.edge_meaning.specs.declared.graph.Table.{Table}
+use Rattle.std.specs.Prelude.{ℕ, cond, List, [], ◌∷◌, map, codes, bytes_eq}
 use Rattle.edge_meaning.specs.declared.graph.EdgeGraph.{EdgeGraph}
 use Rattle.edge_meaning.specs.declared.query.EdgeQuery.{EdgeQuery}
 use Rattle.edge_meaning.specs.declared.query.Output.{Output}
-use Rattle.edge_meaning.specs.Answers.{column_names}
+use Rattle.edge_meaning.specs.Answers.{column_name_at}
 use Rattle.edge_algebra.specs.declared.tree.SqlQuery.{SqlQuery}
 use Rattle.edge_algebra.specs.declared.tree.Select.{Select}
 use Rattle.edge_algebra.specs.declared.tree.SelectColumn.{SelectColumn}
@@ -25,9 +24,6 @@ target_alias = codes "A2"
 abbrev pub alias_of : EdgeQuery → List ℕ → List ℕ
 alias_of query variable = cond (bytes_eq variable query.source) source_alias (cond (bytes_eq variable query.edge) edge_alias target_alias)
 
-abbrev pub column_at : Table → ℕ → List ℕ
-column_at table place = slice_index_or (column_names table) place []
-
 abbrev pub select_column : EdgeQuery → Output → SelectColumn
 select_column query column = record { value = record { alias = alias_of query column.variable; column = column.property }; name = column.name }
 
@@ -39,7 +35,7 @@ from_items graph =
 -- the edge's reference at a place equals the key of the table under an alias
 abbrev pub reference : EdgeGraph → ℕ → List ℕ → Equality
 reference graph place alias =
-    record { left = record { alias = edge_alias; column = column_at graph.edges place }; right = record { alias = alias; column = column_at graph.vertices 0 } }
+    record { left = record { alias = edge_alias; column = column_name_at graph.edges place }; right = record { alias = alias; column = column_name_at graph.vertices 0 } }
 
 abbrev pub lowered_select : EdgeGraph → EdgeQuery → Select
 lowered_select graph query =

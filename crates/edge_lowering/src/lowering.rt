@@ -1,11 +1,11 @@
 ghost use Rattle.std.specs.Prelude.{◌≡◌, ◌≤◌, ◌<◌, length, map, IfOk, IsUtf8};
 ghost use Rattle.pgq_base.specs.Instances.{InstanceRows};
 ghost use Rattle.multisets.specs.Bags.{IsIn, IsSameMultiset};
-ghost use Rattle.edge_meaning.specs.Answers.{answer, answer_names, tables_of};
+ghost use Rattle.edge_meaning.specs.Answers.{answer, answer_names, column_name_at, tables_of};
 ghost use Rattle.edge_meaning.specs.Fits.{Fits};
 ghost use Rattle.edge_meaning.specs.Queries.{IsGraph, IsPattern, IsOfPattern};
 ghost use Rattle.edge_algebra.specs.Meaning.{bag, names_of};
-ghost use Rattle.edge_lowering.specs.Lowered.{lowered_select, from_items, reference, select_column, alias_of, column_at};
+ghost use Rattle.edge_lowering.specs.Lowered.{lowered_select, from_items, reference, select_column, alias_of};
 
 use edge_meaning::{EdgeGraph, EdgeQuery, Output, Table};
 use pgq_base::{List, Name, NoMemory};
@@ -65,7 +65,7 @@ fn from_of(alloc: Global, graph: &EdgeGraph) -> Result<List<FromItem>, NoMemory>
 // The name of the column at a place.
 fn column_name(alloc: Global, table: &Table, place: usize) -> Result<Name, NoMemory>
     requires { place < length table.now.columns }
-    ensures { IfOk result (λ name. name ≡ column_at table.now place) }
+    ensures { IfOk result (λ name. name ≡ column_name_at table.now place) }
 {
     let columns = table.columns.as_slice();
     columns[place].name.copy(alloc)

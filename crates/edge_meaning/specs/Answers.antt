@@ -46,6 +46,10 @@ row_with (row ∷ rows) key = cond (same_values key (values_at key_columns row))
 abbrev pub column_names : Table → List (List ℕ)
 column_names table = map (λ column. column.name) table.columns
 
+-- the name of the column at a place
+abbrev pub column_name_at : Table → ℕ → List ℕ
+column_name_at table place = slice_index_or (column_names table) place []
+
 -- the value of a property of an element: that of the column of its name, in the element's row
 abbrev pub property_value : Table → TableRows → Identity → List ℕ → Value
 property_value table rows element property = value_at (row_with rows element.1) (place_of property (column_names table))

@@ -3,7 +3,7 @@ use Rattle.std.specs.Prelude.{◌≡◌, ℕ, ◌≤◌, ◌⊎◌, true, false,
 use Rattle.std.specs.List.{list_any}
 use Rattle.std.specs.Str.{chars}
 use Rattle.pgq_base.specs.declared.value.Value.{Value}
-use Rattle.pgq_base.specs.declared.value.Value.TheVariants.{Null, Truth, Number, Text}
+use Rattle.pgq_base.specs.declared.value.Value.TheVariants.{Null, Truth, Number, Decimal, Text, Date}
 use Rattle.pgq_base.specs.Instances.{RowValues, TableRows, InstanceRows, values_at, rows_at}
 use Rattle.multisets.specs.Bags.{IsIn, IsWithoutRepeats}
 use Rattle.edge_meaning.specs.declared.graph.ColumnType.{ColumnType}
@@ -19,8 +19,10 @@ IsWithin kind Null = Unit {0}
 IsWithin kind (Truth b) = ⊥
 IsWithin Integer (Number n) = (negsuc 2147483647 ≤ℤ n) × (n ≤ℤ pos 2147483647)
 IsWithin (VarChar most) (Number n) = ⊥
+IsWithin kind (Decimal d) = ⊥
 IsWithin Integer (Text t) = ⊥
 IsWithin (VarChar most) (Text t) = length (chars t) ≤ most
+IsWithin kind (Date d) = ⊥
 
 -- a row has one value for each column, each within the column's type
 abbrev pub IsRowOf : List Column → RowValues → Type 0

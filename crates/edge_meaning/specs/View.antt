@@ -2,7 +2,7 @@
 use Rattle.std.specs.Prelude.{ℕ, Bool, true, false, ◌&&◌, not, List, [], ◌∷◌, map, filter}
 use Rattle.std.specs.List.{list_any}
 use Rattle.pgq_base.specs.declared.value.Value.{Value}
-use Rattle.pgq_base.specs.declared.value.Value.TheVariants.{Null, Truth, Number, Text}
+use Rattle.pgq_base.specs.declared.value.Value.TheVariants.{Null, Truth, Number, Decimal, Text, Date}
 use Rattle.pgq_base.specs.Instances.{RowValues, TableRows, InstanceRows, values_at, rows_at, same_values}
 
 -- the places of the two tables in an instance
@@ -46,7 +46,9 @@ abbrev pub is_null : Value → Bool
 is_null Null = true
 is_null (Truth b) = false
 is_null (Number n) = false
+is_null (Decimal d) = false
 is_null (Text t) = false
+is_null (Date d) = false
 
 -- the values are without Null and are the key of some vertex
 abbrev pub meets : TableRows → List Value → Bool

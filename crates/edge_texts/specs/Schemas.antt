@@ -1,12 +1,12 @@
 -- The schema texts of one vertex table, one edge table and a graph over them.
-use Rattle.std.specs.Prelude.{ℕ, zero, suc, ◌+◌, ◌-◌, ◌*◌, nat_le, nat_eq, Bool, true, false, not, ◌&&◌, ◌||◌, cond, List, [], ◌∷◌, ◌++◌, map, fold, length, drop, Option, None, Some, slice_index_or, bytes_eq, codes}
+use Rattle.std.specs.Prelude.{ℕ, zero, suc, ◌+◌, ◌-◌, ◌*◌, nat_le, nat_eq, Bool, true, false, not, ◌&&◌, ◌||◌, cond, List, [], ◌∷◌, ◌++◌, map, fold, length, drop, Option, None, Some, bytes_eq, codes}
 use Rattle.std.specs.List.{list_all, list_any}
 use Rattle.edge_meaning.specs.declared.graph.ColumnType.{ColumnType}
 use Rattle.edge_meaning.specs.declared.graph.ColumnType.TheVariants.{Integer, VarChar}
 use Rattle.edge_meaning.specs.declared.graph.Column.{Column}
 use Rattle.edge_meaning.specs.declared.graph.EdgeGraph.{EdgeGraph}
 use Rattle.edge_meaning.specs.declared.graph.Table.{Table}
-use Rattle.edge_meaning.specs.Answers.{column_names}
+use Rattle.edge_meaning.specs.Answers.{column_name_at}
 use Rattle.edge_texts.specs.declared.token.Kind.{Kind}
 use Rattle.edge_texts.specs.declared.token.Kind.TheVariants as k
 use Rattle.edge_texts.specs.declared.token.Token.{Token}
@@ -93,9 +93,6 @@ edges_from v k tokens =
     Some (record { name = f.name; columns = columns }, left)))))))))
 
 -- the name of a table's column at a place
-abbrev pub column_at : Table → ℕ → List ℕ
-column_at table place = slice_index_or (column_names table) place []
-
 -- SOURCE KEY ( a ) REFERENCES v ( k ), and so for DESTINATION
 unfoldable pub end_slots : List ℕ → List ℕ → List ℕ → List ℕ → List Slot
 end_slots side a v k = word side ∷ word (codes "KEY") ∷ symbol 40 ∷ word a ∷ symbol 41 ∷ reference_slots v k
@@ -108,8 +105,8 @@ element_slots v f =
 -- SOURCE KEY ( a ) REFERENCES v ( k ) DESTINATION KEY ( b ) REFERENCES v ( k )
 unfoldable pub ends_from : Table → Table → List Token → Option (Unit {0} × List Token)
 ends_from vertices edges tokens =
-    then (fixed (end_slots (codes "SOURCE") (column_at edges 1) vertices.name (column_at vertices 0)) tokens) (λ u1 left.
-    fixed (end_slots (codes "DESTINATION") (column_at edges 2) vertices.name (column_at vertices 0)) left)
+    then (fixed (end_slots (codes "SOURCE") (column_name_at edges 1) vertices.name (column_name_at vertices 0)) tokens) (λ u1 left.
+    fixed (end_slots (codes "DESTINATION") (column_name_at edges 2) vertices.name (column_name_at vertices 0)) left)
 
 -- ) ; CREATE PROPERTY GRAPH g VERTEX TABLES ( v ) EDGE TABLES ( f SOURCE KEY .. DESTINATION KEY .. )
 abbrev pub graph_from : Table → Table → List Token → Option (Named × List Token)
@@ -125,7 +122,7 @@ graph_from vertices edges tokens =
 unfoldable pub statements_from : List Token → Option (EdgeGraph × List Token)
 statements_from tokens =
     then (vertices_from tokens) (λ vertices l1.
-    then (edges_from vertices.name (column_at vertices 0) l1) (λ edges l2.
+    then (edges_from vertices.name (column_name_at vertices 0) l1) (λ edges l2.
     then (graph_from vertices edges l2) (λ g left.
     Some (record { name = g.name; vertices = vertices; edges = edges }, left))))
 

@@ -1,6 +1,7 @@
 ghost use Rattle.std.specs.Prelude.{◌≡◌, ◌<◌, ◌≤◌, ◌∷◌, [], IfOk, length, map, codes};
+ghost use Rattle.edge_meaning.specs.Answers.{column_name_at};
 ghost use Rattle.edge_texts.specs.Forms.{Reads, fixed, word};
-ghost use Rattle.edge_texts.specs.Schemas.{vertices_from, link_from, edges_from, graph_from, statements_from, column_at, element_slots, end_slots, ends_from, reference_slots};
+ghost use Rattle.edge_texts.specs.Schemas.{vertices_from, link_from, edges_from, graph_from, statements_from, element_slots, end_slots, ends_from, reference_slots};
 
 use crate::columns::take_columns;
 use crate::form::{Cursor, Item, Miss, Named, expect, take_name};
@@ -235,7 +236,7 @@ fn expect_end_at(
 ) -> Result<(), Miss>
     requires vertices { 0 < length vertices.now.columns }
     requires edges { place < length edges.now.columns }
-    ensures { Reads (fixed (end_slots side.now (column_at edges.now place) vertices.now.name (column_at vertices.now 0)) cursor.old) result cursor.new }
+    ensures { Reads (fixed (end_slots side.now (column_name_at edges.now place) vertices.now.name (column_name_at vertices.now 0)) cursor.old) result cursor.new }
 {
     expect_end(
         side,
@@ -248,7 +249,7 @@ fn expect_end_at(
 
 fn column_name(table: &Table, place: usize) -> &Name
     requires { place < length table.now.columns }
-    ensures { result.now ≡ column_at table.now place }
+    ensures { result.now ≡ column_name_at table.now place }
 {
     let columns = table.columns.as_slice();
     &columns[place].name
