@@ -6,7 +6,7 @@ ghost use Rattle.token_marks.specs.declared.mark.Mark.TheVariants as m;
 ghost use Rattle.token_reading.specs.Tokens.{class, is_mark, is_name, is_word, span_of, named, name_bytes, word_bytes, small_number, number_at};
 
 use graph_ast::Named;
-use pgq_base::{Name, Span};
+use pgq_base::{Name, Span, Stop};
 use sql_lexer::{Kind, Token};
 use std::alloc::Global;
 use token_grammar::{Cause, Cursor, Halt};
@@ -16,10 +16,10 @@ use token_marks::{Mark, mark_of};
 pub type Tokens<'a> = Cursor<'a, Token>;
 
 /// No sentence goes on with the next token, or ends here.
-pub const UNEXPECTED: Halt = Halt::Fault(Cause::Unexpected);
+pub const UNEXPECTED: Halt = Stop::Refused(Cause::Unexpected);
 
 /// One bracket too many would be open.
-pub const TOO_DEEP: Halt = Halt::Fault(Cause::TooDeep);
+pub const TOO_DEEP: Halt = Stop::Refused(Cause::TooDeep);
 
 /// The class of a token: the number of its mark.
 #[tactic(auto, unfolding(crate::specs::Tokens::class))]
