@@ -1,3 +1,1 @@
-pub mod Sampled
-pub mod Classes
 pub mod DateLemmas
