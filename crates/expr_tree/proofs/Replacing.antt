@@ -2,6 +2,7 @@
 use Rattle.std.proofs.Common.{◌≡◌, ℕ, suc, ◌+◌, ◌<◌, Bool, List, [], ◌∷◌, ◌++◌, map, flat_map, take, get_or, length, add-one, Result, Ok, Err, IfOk, refl, sym, ap, ap₂, subst, ◌∙◌, append_assoc}
 use Rattle.std.specs.List.{AllByRecursion}
 use Rattle.std.proofs.lemmas.Grind.{flat_map-append}
+use Rattle.std.proofs.lemmas.List.{map-append}
 use Rattle.std.proofs.Math.Seq.{take-suc}
 use Rattle.pgq_base.specs.declared.memory.NoMemory.{NoMemory}
 use Rattle.pgq_base.specs.declared.value.Class.{Class}
@@ -21,10 +22,6 @@ use Rattle.expr_tree.proofs.MapLemmas.{same-InList, same-Between}
 together : {X : Type 0} (P : X → Type 0) (xs ys : List X) → AllByRecursion P xs → AllByRecursion P ys → AllByRecursion P (xs ++ ys)
 together P [] ys a b = b
 together P (x ∷ xs) ys a b = (a.0, together P xs ys a.1 b)
-
-map_both : {A B : Type 0} (f : A → B) (xs ys : List A) → map f (xs ++ ys) ≡ map f xs ++ map f ys
-map_both f [] ys = refl
-map_both f (x ∷ xs) ys = ap (λ l. f x ∷ l) (map_both f xs ys)
 
 module _ {L M : Type 0} (Allows : L → Expr M → Type 0) where
   abbrev Pair : Type 0
@@ -130,8 +127,8 @@ module _ {L M : Type 0} (Allows : L → Expr M → Type 0) where
       → AreReplacedBy Allows es ys → IsReplacedBy Allows e y → AreReplacedBy Allows (es ++ e ∷ []) (ys ++ y ∷ [])
   replaced_next es ys e y r p = record {
     paired = r.paired ++ p.paired ∷ [];
-    whole = map_both _ r.paired (p.paired ∷ []) ∙ ap₂ (λ l z. l ++ z ∷ []) r.whole p.whole;
-    replaced = map_both _ r.paired (p.paired ∷ []) ∙ ap₂ (λ l z. l ++ z ∷ []) r.replaced p.replaced;
+    whole = map-append _ r.paired (p.paired ∷ []) ∙ ap₂ (λ l z. l ++ z ∷ []) r.whole p.whole;
+    replaced = map-append _ r.paired (p.paired ∷ []) ∙ ap₂ (λ l z. l ++ z ∷ []) r.replaced p.replaced;
     allowed = subst (AllByRecursion Allowed) (sym (flat_map-append leaves_in r.paired (p.paired ∷ []))) (together Allowed _ _ r.allowed (together Allowed _ [] p.allowed tt));
   }
 

@@ -49,7 +49,7 @@ ranked_alike Greater f g h m = h m
 scaled_cmp : (x y : ℤ) (k : ℕ) → zero < k → int_cmp (x *ℤ pos k) (y *ℤ pos k) ≡ int_cmp x y
 scaled_cmp x y k some =
     sym (int_cmp_is (x *ℤ pos k) (y *ℤ pos k) (int_cmp x y)
-      (ranked_alike (int_cmp x y) (scaled_less x y k some) (λ e. ap (λ z. z *ℤ pos k) e) (scaled_less y x k some) (int_ranks x y)))
+    (ranked_alike (int_cmp x y) (scaled_less x y k some) (λ e. ap (λ z. z *ℤ pos k) e) (scaled_less y x k some) (int_ranks x y)))
 
 -- ---- sizes by their numbers of 36 digits behind the point
 
