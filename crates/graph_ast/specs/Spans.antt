@@ -23,8 +23,9 @@ use Rattle.graph_ast.specs.declared.schema.PropertiesDef.TheVariants.{Nothing, L
 use Rattle.graph_ast.specs.declared.schema.PropertyDef.{PropertyDef}
 
 -- the span is a part of a text of that length
-abbrev pub LiesIn : ℕ → Span → Type 0
-LiesIn length span = (span.from ≤ span.to) × (span.to ≤ length)
+pub record LiesIn (length : ℕ) (span : Span) : Type 0 where
+  pub ordered : span.from ≤ span.to
+  pub within : span.to ≤ length
 
 abbrev pub NameHas : (Span → Type 0) → Named → Type 0
 NameHas P n = P n.span
