@@ -1,0 +1,2 @@
+pub mod LiteralKinds
+pub mod FirstLiterals

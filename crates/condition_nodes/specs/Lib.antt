@@ -1,0 +1,4 @@
+pub mod Reading
+pub mod Gathered
+pub mod Tails
+pub mod Literals
