@@ -14,12 +14,15 @@ use Rattle.graph_ast.specs.declared.schema.EdgeDef.{EdgeDef}
 use Rattle.graph_ast.specs.declared.schema.Named.{Named}
 use Rattle.graph_ast.specs.Schemas.{tables_among, graphs_among, rules_of, elements}
 use Rattle.graph_ast.specs.Shapes.{IsNotEmpty, RuleHasShape, KeyHasShape, EndHasShape, GraphHasShape, HasShape}
-use Rattle.token_grammar.specs.Grammar.{Grammar, many_tokens}
-use Rattle.token_grammar.specs.Rules.{grammar, within}
+use Rattle.token_grammar.specs.Grammar.{Grammar, many_tokens, opt_tokens, one, seq}
+use Rattle.token_grammar.specs.Rules.{grammar, within, is, the_token}
+use Rattle.token_grammar.specs.Rules.Rule.{trailing}
+use Rattle.token_marks.specs.declared.mark.Mark.TheVariants as m
+use Rattle.token_marks.specs.Marks.{number_of}
 use Rattle.token_reading.specs.Tokens.{class}
 use Rattle.schema_parser.specs.declared.tables.TableItem.{TableItem}
 use Rattle.schema_parser.specs.declared.tables.TableItem.TheVariants as item
-use Rattle.schema_parser.specs.Tables.{Inside, Held, Production, AtColumn, parens, list, columns, column_rule_kind, column_rule, column_rules, column, table_rule_kind, table_rule, table_item, table, columns_among, rules_among}
+use Rattle.schema_parser.specs.Tables.{Inside, Held, Production, AtColumn, parens, list, name, columns, column_rule_kind, column_rule, column_rules, column, table_rule_kind, table_rule, table_item, table, columns_among, rules_among}
 use Rattle.schema_parser.specs.Graphs.{inside, key, head, element, end, ends, edge, vertices, edges, edges_or_none, graph, statement as a_statement, schema, schema_text}
 use Rattle.schema_parser.specs.Outcomes.{SpellsSchema}
 
@@ -41,9 +44,14 @@ flat_all : {A B : Type 0} (f : A → List B) (P : B → Type 0) (xs : List A) �
 flat_all f P [] a = tt
 flat_all f P (x ∷ xs) a = append_all P (f x) (flat_map f xs) a.0 (flat_all f P xs a.1)
 
-map_long : {A B : Type 0} (f : A → B) (xs : List A) → length (map f xs) ≡ length xs
-map_long f [] = refl
-map_long f (x ∷ xs) = let e : length (map f xs) ≡ length xs = map_long f xs in omega (arith, e)
+-- the second parts of pairs
+pairs_long : {A B D : Type 0} (f : D → A) (g : D → B) (ds : List D) → length (map (λ (p : A × B). p.1) (map (λ (d : D). let p : A × B = (f d, g d) in p) ds)) ≡ length ds
+pairs_long f g [] = refl
+pairs_long f g (d ∷ ds) = ap suc (pairs_long f g ds)
+
+pairs_all : {A B D : Type 0} (f : D → A) (g : D → B) (P : B → Type 0) (ds : List D) → ((d : D) → P (g d)) → AllByRecursion P (map (λ (p : A × B). p.1) (map (λ (d : D). let p : A × B = (f d, g d) in p) ds))
+pairs_all f g P [] h = tt
+pairs_all f g P (d ∷ ds) h = (h d, pairs_all f g P ds h)
 
 -- at least one token for each
 many_long : {D : Type 0} (f : D → List Token) → ((d : D) → 1 ≤ length (f d)) → (ds : List D) → length ds ≤ length (many_tokens f ds)
@@ -69,9 +77,12 @@ parens_all (suc n) k P h d = h n d.1.0
 list_all_of : {V : Type 0} (n : ℕ) (r : Production V) (P : V → Type 0) → ((d : (at n r).Phrase) → P ((at n r).value d)) → (d : (at n (list r)).Phrase) → AllByRecursion P ((at n (list r)).value d)
 list_all_of n r P h d = (h d.0, map_all (λ p. (at n r).value p.1) P d.1 (λ p. h p.1))
 
+list_some : {V : Type 0} (n : ℕ) (r : Production V) (d : (at n (list r)).Phrase) → IsNotEmpty ((at n (list r)).value d)
+list_some n r d = not_empty ((at n r).value d.0) (map (λ p. (at n r).value p.1) d.1)
+
 columns_some : (n : ℕ) (d : (at n columns).Phrase) → IsNotEmpty ((at n columns).value d)
 unfolding columns
-columns_some n d = parens_all n Inside.name_list IsNotEmpty (λ m e. not_empty _ _) d
+columns_some n d = parens_all n Inside.name_list IsNotEmpty (λ m e. list_some m name e) d
 
 -- ---- tables
 
@@ -183,7 +194,7 @@ SomeElements es = IsNotEmpty es × AllByRecursion ElementIs es
 
 vertices_are : (n : ℕ) (d : (at n vertices).Phrase) → SomeElements ((at n vertices).value d)
 unfolding vertices
-vertices_are n d = parens_all n Inside.element_list SomeElements (λ m e. (not_empty _ _, list_all_of m element ElementIs (element_is m) e)) d.1.1
+vertices_are n d = parens_all n Inside.element_list SomeElements (λ m e. (list_some m element e, list_all_of m element ElementIs (element_is m) e)) d.1.1
 
 edges_are : (n : ℕ) (d : (at n edges).Phrase) → AllByRecursion EdgeIs ((at n edges).value d)
 unfolding edges
@@ -229,16 +240,34 @@ graphs_are [] h = tt
 graphs_are (statement.Table t ∷ all) h = graphs_are all h.1
 graphs_are (statement.Graph g ∷ all) h = (h.0, graphs_are all h.1)
 
+abbrev Followed : ℕ → Type 0
+Followed n = (seq (one (is class (number_of m.Semicolon)) the_token) (at n a_statement)).Phrase
+
+abbrev semicolon_of : (n : ℕ) → Followed n → Token
+semicolon_of n p = p.0.0
+
+abbrev statement_of : (n : ℕ) → Followed n → Statement
+statement_of n p = (at n a_statement).value p.1
+
+abbrev tokens_of : (n : ℕ) → Followed n → List Token
+tokens_of n p = p.0.0 ∷ [] ++ (at n a_statement).tokens p.1
+
 statements_are : (n : ℕ) (d : (at n schema).Phrase) → AllByRecursion StatementIs (((at n schema).value d).statements)
 unfolding schema
-statements_are n d = (statement_is n d.0, map_kept (λ p. p.1) StatementIs (λ p. StatementIs p.1) _ (λ p h. h) (map_all (λ p. (_, (at n a_statement).value p.1)) (λ p. StatementIs p.1) d.1.0 (λ p. statement_is n p.1)))
+statements_are n d = (statement_is n d.0, pairs_all (semicolon_of n) (statement_of n) StatementIs d.1.0 (λ p. statement_is n p.1))
+
+tokens_of_long : (n : ℕ) (p : Followed n) → 1 ≤ length (tokens_of n p)
+tokens_of_long n p = omega arith
 
 statements_few : (n : ℕ) (d : (at n schema).Phrase) → length (((at n schema).value d).statements) ≤ length ((at n schema).tokens d)
 unfolding schema
 statements_few n d =
     let first : 1 ≤ length ((at n a_statement).tokens d.0) = statement_long n d.0 in
-    let more : length d.1.0 ≤ length (many_tokens (λ p. p.0.0 ∷ [] ++ (at n a_statement).tokens p.1) d.1.0) = many_long (λ p. p.0.0 ∷ [] ++ (at n a_statement).tokens p.1) (λ p. omega arith) d.1.0 in
-    omega (arith, first, more, map_long (λ p. (p.0.0, (at n a_statement).value p.1)) d.1.0)
+    let more : length d.1.0 ≤ length (many_tokens (tokens_of n) d.1.0) = many_long (tokens_of n) (tokens_of_long n) d.1.0 in
+    let all : length (((at n schema).value d).statements) ≡ suc (length d.1.0) = ap suc (pairs_long (semicolon_of n) (statement_of n) d.1.0) in
+    let whole : length ((at n schema).tokens d) ≡ length ((at n a_statement).tokens d.0) + length ((at n (trailing (number_of m.Semicolon) a_statement)).tokens d.1) = length-append ((at n a_statement).tokens d.0) ((at n (trailing (number_of m.Semicolon) a_statement)).tokens d.1) in
+    let behind : length (many_tokens (tokens_of n) d.1.0) ≤ length ((at n (trailing (number_of m.Semicolon) a_statement)).tokens d.1) = omega (arith, length-append (many_tokens (tokens_of n) d.1.0) (opt_tokens (λ (e : (one (is class (number_of m.Semicolon)) the_token).Phrase). e.0 ∷ []) d.1.1)) in
+    omega (arith, first, more, all, whole, behind)
 
 shape_of : (n : ℕ) (ts : List Token) (d : (at n schema).Phrase) → ts ≡ (at n schema).tokens d → length ts < 2 ^ 32 → HasShape ((at n schema).value d)
 shape_of n ts d t few = record {
