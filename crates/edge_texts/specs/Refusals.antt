@@ -7,8 +7,6 @@ use Rattle.pgq_base.specs.declared.refusal.Role.{Role}
 use Rattle.pgq_base.specs.declared.refusal.Role.TheVariants.{Schema, Query}
 use Rattle.pgq_base.specs.declared.refusal.Detail.TheVariants.{Nothing}
 use Rattle.pgq_base.specs.declared.refusal.Refusal.{Refusal}
-use Rattle.pgq_base.specs.declared.refusal.Stop.{Stop}
-use Rattle.pgq_base.specs.declared.refusal.Stop.TheVariants as s
 use Rattle.edge_meaning.specs.declared.graph.EdgeGraph.{EdgeGraph}
 use Rattle.edge_texts.specs.declared.form.Miss.{Miss}
 use Rattle.edge_texts.specs.declared.form.Miss.TheVariants as m
@@ -29,12 +27,6 @@ formed role (Some x) = Ok x
 -- what a schema text is due
 abbrev pub schema_due : List ℕ → Result EdgeGraph Refusal
 schema_due text = formed Schema (schema_of text)
-
--- code answers what is due, unless memory runs out
-abbrev pub Gives : {A : Type 0} → Result A Refusal → Result A Stop → Type 0
-Gives due (Ok x) = due ≡ Ok x
-Gives due (Err (s.Refused r)) = due ≡ Err r
-Gives due (Err s.NoMemory) = Unit {0}
 
 -- code that reads all tokens gives what they spell, and misses exactly where they spell nothing
 abbrev pub Spelled : {A : Type 0} → Option A → Result A Miss → Type 0

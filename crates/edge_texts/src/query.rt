@@ -4,7 +4,8 @@ ghost use Rattle.multisets.specs.Bags.{IsIn};
 ghost use Rattle.edge_meaning.specs.Queries.{IsPattern, IsOfPattern};
 ghost use Rattle.edge_texts.specs.Forms.{Reads};
 ghost use Rattle.edge_texts.specs.Queries.{pattern_from, with_columns, query_from, is_of_pattern, outputs_differ, is_proper, ended, query_of};
-ghost use Rattle.edge_texts.specs.Refusals.{Gives, Spelled};
+ghost use Rattle.edge_texts.specs.Refusals.{Spelled};
+ghost use Rattle.pgq_base.specs.Answers.{Gives};
 ghost use Rattle.edge_texts.specs.QueryRefusals.{query_due};
 
 use crate::form::{Cursor, Item, Miss, expect, take_name};

@@ -2,7 +2,8 @@ ghost use Rattle.std.specs.Prelude.{◌≡◌, ◌≤◌, IfOk, length, bytes_eq
 ghost use Rattle.std.specs.List.{list_any, list_all};
 ghost use Rattle.edge_meaning.specs.Queries.{IsGraph};
 ghost use Rattle.edge_texts.specs.Schemas.{columns_differ, is_same_word, agrees_with, is_proper, is_end, statements_from, whole, proper, schema_of};
-ghost use Rattle.edge_texts.specs.Refusals.{Gives, Spelled, not_of_form, schema_due};
+ghost use Rattle.edge_texts.specs.Refusals.{Spelled, not_of_form, schema_due};
+ghost use Rattle.pgq_base.specs.Answers.{Gives};
 
 use crate::form::{Cursor, Miss, is_mark};
 use crate::lexing::tokens;

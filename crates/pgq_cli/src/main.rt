@@ -9,6 +9,7 @@ mod stream;
 mod tests;
 mod words;
 
+use disk::DiskShelf;
 use exit::exit_code;
 use pgq_base::{NoMemory, put_all};
 use pgq_program::Status;
@@ -26,7 +27,10 @@ fn main(rt: HostRuntime) -> ExitCode {
     let mut out = StdSink::new(rt.stdout());
     let mut err = StdSink::new(rt.stderr());
     let status = match words_after_name(&rt) {
-        Ok(words) => run(&rt, words.as_slice(), &mut out, &mut err),
+        Ok(words) => {
+            let mut files = DiskShelf::new(&rt, words.as_slice());
+            run(&rt, words.as_slice(), &mut files, &mut out, &mut err)
+        }
         Err(NoMemory) => {
             let _ = put_all(&mut err, b"out of memory\n");
             Status::NoMemory

@@ -1,3 +1,4 @@
+use crate::disk::DiskShelf;
 use crate::run::run;
 use crate::stream::StdSink;
 use pgq_base::{Fault, List, Sink, Text};
@@ -25,9 +26,11 @@ fn adapters_tell_the_outside(rt: HostRuntime) -> Result<(), Fail> {
         }
         let mut out = Vec::new(alloc);
         let mut err = Vec::new(alloc);
+        let mut files = DiskShelf::new(&rt, words.as_slice());
         let ended = run(
             &rt,
             words.as_slice(),
+            &mut files,
             &mut StdSink::new(&mut out),
             &mut StdSink::new(&mut err),
         );

@@ -1,14 +1,9 @@
 -- What a run answers, and what its sinks receive.
-use Rattle.std.specs.Prelude.{◌≡◌, ◌==◌, ℕ, ◌≤◌, ◌⊎◌, cond, List, [], ◌∷◌, ◌++◌, ⊤, Option, None, Some, Result, Ok, Err, IsOkAnd, is_some, map, codes, decimal}
-use Rattle.std.specs.List.{position}
+use Rattle.std.specs.Prelude.{◌≡◌, ℕ, ◌≤◌, ⊤, List, [], Option, None, IfSome, Result, Ok, Err, codes}
 use Rattle.std.specs.Io.KnownBytes.{Appends}
 use Rattle.pgq_base.specs.Causes.{Rose}
-use Rattle.pgq_base.specs.Codes.{number_of, message_of}
 use Rattle.pgq_base.specs.Files.{AppendsPrefix}
-use Rattle.pgq_base.specs.declared.code.Code.{Code}
 use Rattle.pgq_base.specs.declared.refusal.Refusal.{Refusal}
-use Rattle.pgq_base.specs.declared.refusal.Role.{Role}
-use Rattle.pgq_base.specs.declared.refusal.Role.TheVariants.{Schema, Query, Sql, Table}
 use Rattle.pgq_program.specs.declared.halt.Halt.{Halt}
 use Rattle.pgq_program.specs.declared.halt.Halt.TheVariants as h
 use Rattle.pgq_program.specs.declared.status.Status.{Status}
@@ -16,37 +11,17 @@ use Rattle.pgq_program.specs.declared.status.Status.TheVariants.{Done, Refused, 
 use Rattle.pgq_program.specs.declared.answers.Answer.{Answer}
 use Rattle.pgq_program.specs.declared.answers.Answer.TheVariants as a
 use Rattle.pgq_program.specs.Commands.{command_of}
-use Rattle.pgq_program.specs.Meaning.{Means}
-use Rattle.pgq_program.specs.Steps.{asked_due}
-use Rattle.pgq_program.specs.Texts.{Checked}
+use Rattle.pgq_program.specs.Lines.{refusal_line, usage_line, IsLineOf}
+use Rattle.pgq_program.specs.Outcomes.{Outcome, IsTextOf}
+use Rattle.pgq_program.specs.Steps.{Owes}
 
-abbrev pub role_text : Role → List ℕ
-role_text Schema = codes "schema"
-role_text Query = codes "query"
-role_text Sql = codes "sql"
-role_text Table = codes "table"
-
--- <role>:<from>-<to>: <code> <text>
-unfoldable pub refusal_line : Refusal → List ℕ
-refusal_line refusal =
-    role_text refusal.role ++ codes ":" ++ decimal refusal.span.from ++ codes "-" ++ decimal refusal.span.to ++ codes ": " ++ decimal (number_of refusal.code) ++ codes " "
-    ++ message_of refusal.code ++ codes "\n"
-
-abbrev pub usage_line : List ℕ
-usage_line =
-    codes "usage: pgq translate SCHEMA QUERY, check SCHEMA [QUERY], run SCHEMA QUERY TABLE=FILE ..., eval SCHEMA SQL TABLE=FILE ..., sample N\n"
-
--- some text is due, and this is one
-abbrev pub IsDueText : Result Checked Halt → List ℕ → Type 0
-IsDueText due text = IsOkAnd due (λ checked. Means checked.0 checked.1 text)
-
--- the answer that is due where these files are told; want of memory and a fault may come at any point
-abbrev pub IsDue : List (List ℕ) → List (List ℕ × List ℕ) → Answer → Type 0
-IsDue words files (a.Done text) = IsDueText (asked_due (command_of words) files) text
-IsDue words files (a.Refused line) = (refusal : Refusal) × (asked_due (command_of words) files ≡ Err (h.Refused refusal)) × (line ≡ refusal_line refusal)
-IsDue words files a.Usage = asked_due (command_of words) files ≡ Err h.Usage
-IsDue words files a.ReadFault = ⊤
-IsDue words files a.NoMemory = ⊤
+-- the answer is due by what the words are due; want of memory and a fault may come at any point
+abbrev pub IsDue : (Result Outcome Halt → Type 0) → Answer → Type 0
+IsDue due (a.Done text) = (outcome : Outcome) × due (Ok outcome) × IsTextOf outcome text
+IsDue due (a.Refused line) = (refusal : Refusal) × due (Err (h.Refused refusal)) × (line ≡ refusal_line refusal)
+IsDue due a.Usage = due (Err h.Usage)
+IsDue due a.ReadFault = ⊤
+IsDue due a.NoMemory = ⊤
 
 abbrev pub status_of : Answer → Status
 status_of (a.Done text) = Done
@@ -83,3 +58,23 @@ pub record Gets (status : Status) (text : List ℕ) (old new : Option (List ℕ)
   pub all : (status ≡ WriteFault → ⊥) → Appends old new text
   pub later : before ≤ now
   pub kept : (status ≡ WriteFault → ⊥) → now ≡ before
+
+-- The whole run: some answer was due by the told files and had its cause, by the form of the words it is Usage or not, its line on `err`
+-- is one of its status, and each sink received its text by it.
+pub record Ran (words : List (List ℕ)) (files : Option (List (List ℕ × List ℕ))) (before now : ℕ) (status : Status)
+    (out_old out_new : Option (List ℕ)) (out_before out_now : ℕ) (err_old err_new : Option (List ℕ)) (err_before err_now : ℕ) : Type 0 where
+  pub answer : Answer
+  pub due : IfSome files (λ told. IsDue (Owes (command_of words) told) answer)
+  pub cause : AnswerCause before now answer
+  pub form : command_of words ≡ None → status_of answer ≡ Usage
+  pub usage : status_of answer ≡ Usage → command_of words ≡ None
+  pub line : IsLineOf (status_of answer) (err_text answer)
+  pub status_is : (status ≡ WriteFault → ⊥) → status ≡ status_of answer
+  pub out : Gets status (out_text answer) out_old out_new out_before out_now
+  pub err : Gets status (err_text answer) err_old err_new err_before err_now
+
+-- `err` received a line of the status
+pub record HasLine (status : Status) (old new : Option (List ℕ)) : Type 0 where
+  pub text : List ℕ
+  pub is_line : IsLineOf status text
+  pub whole : Appends old new text

@@ -14,10 +14,12 @@ use Rattle.edge_texts.specs.QueryRefusals.{query_due}
 use Rattle.pgq_program.specs.declared.halt.Halt.{Halt}
 use Rattle.pgq_program.specs.declared.halt.Halt.TheVariants as h
 use Rattle.pgq_program.specs.Commands.{Asked}
+use Rattle.pgq_program.specs.Chains.{Then, Only}
+use Rattle.pgq_program.specs.Outcomes.{Outcome, IsTextOf}
 use Rattle.pgq_program.specs.Texts.{next, sized, checked, Checked}
 
 -- a stop of a call halts the run
-abbrev pub halt_of : Stop → Halt
+abbrev pub halt_of : Stop Refusal → Halt
 halt_of (s.Refused refusal) = h.Refused refusal
 halt_of s.NoMemory = h.NoMemory
 
@@ -46,17 +48,17 @@ abbrev pub translate_due : List ℕ → List ℕ → List (List ℕ × List ℕ)
 translate_due schema query files = next (graph_at schema files) (λ graph. next (query_at query files) (λ asked. halting (checked graph asked)))
 
 -- what the words are due
-abbrev pub asked_due : Option Asked → List (List ℕ × List ℕ) → Result Checked Halt
-asked_due None files = Err h.Usage
-asked_due (Some (Asked.OfTranslate schema query)) files = translate_due schema query files
+abbrev pub Owes : Option Asked → List (List ℕ × List ℕ) → Result Outcome Halt → Type 0
+Owes None files answer = answer ≡ Err h.Usage
+Owes (Some (Asked.OfTranslate schema query)) files answer = Then (Only (translate_due schema query files)) (λ checked. Only (Ok (Outcome.Translation checked.0 checked.1))) answer
 
--- this answer, or want of memory or a fault, which have their own clauses
-abbrev pub Gives : {A : Type 0} → Result A Halt → Result A Halt → Type 0
-Gives due (Ok x) = due ≡ Ok x
-Gives due (Err (h.Refused refusal)) = due ≡ Err (h.Refused refusal)
-Gives due (Err h.Usage) = due ≡ Err h.Usage
-Gives due (Err h.ReadFault) = ⊤
-Gives due (Err h.NoMemory) = ⊤
+-- this answer is due, or it is want of memory or a fault, which have their own clauses
+abbrev pub StepGives : {A : Type 0} → (Result A Halt → Type 0) → Result A Halt → Type 0
+StepGives due (Ok x) = due (Ok x)
+StepGives due (Err (h.Refused refusal)) = due (Err (h.Refused refusal))
+StepGives due (Err h.Usage) = due (Err h.Usage)
+StepGives due (Err h.ReadFault) = ⊤
+StepGives due (Err h.NoMemory) = ⊤
 
 -- this halt is due, or it is want of memory or a fault
 abbrev pub IsHaltOf : {A : Type 0} → Result A Halt → Halt → Type 0
@@ -64,6 +66,14 @@ IsHaltOf due (h.Refused refusal) = due ≡ Err (h.Refused refusal)
 IsHaltOf due h.Usage = due ≡ Err h.Usage
 IsHaltOf due h.ReadFault = ⊤
 IsHaltOf due h.NoMemory = ⊤
+
+-- this text is one of the outcome that is due, or this halt is due
+abbrev pub StepWrites : (Result Outcome Halt → Type 0) → Result (List ℕ) Halt → Type 0
+StepWrites due (Ok text) = (outcome : Outcome) × due (Ok outcome) × IsTextOf outcome text
+StepWrites due (Err (h.Refused refusal)) = due (Err (h.Refused refusal))
+StepWrites due (Err h.Usage) = due (Err h.Usage)
+StepWrites due (Err h.ReadFault) = ⊤
+StepWrites due (Err h.NoMemory) = ⊤
 
 -- a read fault comes only where the count rose, or stands at its last value, and but for want of memory nothing else does
 pub record HaltCause {A : Type 0} (before now : ℕ) (result : Result A Halt) : Type 0 where

@@ -44,6 +44,6 @@ abbrev pub texts_due : List ℕ → List ℕ → Result Checked Refusal
 texts_due schema query = next (graph_due schema) (λ graph. next (edge_query_due query) (λ asked. checked graph asked))
 
 -- a refusal that is due; want of memory may come at any point
-abbrev pub IsStopOf : {A : Type 0} → Result A Refusal → Stop → Type 0
+abbrev pub IsStopOf : {A : Type 0} → Result A Refusal → Stop Refusal → Type 0
 IsStopOf due (s.Refused refusal) = due ≡ Err refusal
 IsStopOf due s.NoMemory = Unit {0}

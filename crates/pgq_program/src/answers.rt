@@ -1,5 +1,6 @@
 ghost use Rattle.std.specs.Prelude.{◌≡◌};
-ghost use Rattle.pgq_program.specs.Runs.{status_of, out_text, err_text, usage_line};
+ghost use Rattle.pgq_program.specs.Lines.{usage_line};
+ghost use Rattle.pgq_program.specs.Runs.{status_of, out_text, err_text};
 
 use crate::status::Status;
 use pgq_base::List;

@@ -3,7 +3,9 @@
 
 mod answers;
 mod halt;
+mod laws;
 mod lines;
+mod names;
 mod status;
 mod steps;
 mod telling;
@@ -11,6 +13,7 @@ mod texts;
 mod top;
 mod words;
 
+pub use laws::one_answer;
 pub use status::Status;
 pub use texts::translate_texts;
 pub use top::pgq;

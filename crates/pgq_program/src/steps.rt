@@ -1,16 +1,18 @@
-ghost use Rattle.std.specs.Prelude.{◌≡◌, ◌≤◌, IfSome, IfOk, IfErr, IsOkAnd, IsErrOf, None, Err, length};
+ghost use Rattle.std.specs.Prelude.{◌≡◌, ◌≤◌, IfSome, IfOk, IfErr, IsOkAnd, IsErrOf, None, Some, Err, length};
 ghost use Rattle.multisets.specs.Bags.{IsIn};
 ghost use Rattle.edge_meaning.specs.Queries.{IsGraph, IsPattern, IsOfPattern};
 ghost use Rattle.pgq_base.specs.Files.{IsAsked};
+ghost use Rattle.pgq_program.specs.Chains.{Only};
+ghost use Rattle.pgq_program.specs.Commands.Asked.{OfTranslate};
 ghost use Rattle.pgq_program.specs.Commands.{command_of};
 ghost use Rattle.pgq_program.specs.Meaning.{Means};
-ghost use Rattle.pgq_program.specs.Steps.{Gives, HaltCause, IsHaltOf, text_at, graph_at, query_at, translate_due, asked_due};
+ghost use Rattle.pgq_program.specs.Steps.{StepGives, StepWrites, IsHaltOf, HaltCause, text_at, graph_at, query_at, translate_due, Owes};
 
 use crate::halt::Halt;
 use crate::texts::{TEXT_LIMIT, sql_text, too_large};
 use crate::words::{Command, read_words};
-use edge_texts::{find_fault, read_query, read_schema};
 use edge_meaning::{EdgeGraph, EdgeQuery};
+use edge_texts::{find_fault, read_query, read_schema};
 use pgq_base::{List, LoadStop, Role, Shelf, Text, load};
 use std::alloc::Global;
 
@@ -19,7 +21,7 @@ fn text_of<F: Shelf>(alloc: Global, files: &mut F, role: Role, name: &str) -> Re
     ensures words { F.words files.new ≡ F.words files.old }
     ensures files { F.files files.new ≡ F.files files.old }
     ensures cause { HaltCause (F.faults files.old) (F.faults files.new) result }
-    ensures told { IfSome (F.files files.old) (λ told. Gives (text_at role name.now told) result) }
+    ensures told { IfSome (F.files files.old) (λ told. StepGives (Only (text_at role name.now told)) result) }
     ensures within { IfOk result (λ text. length text ≤ 1048576) }
     ensures never { IsErrOf result Halt.Usage → ⊥ }
 {
@@ -36,7 +38,7 @@ fn graph_of<F: Shelf>(alloc: Global, files: &mut F, name: &str) -> Result<EdgeGr
     ensures words { F.words files.new ≡ F.words files.old }
     ensures files { F.files files.new ≡ F.files files.old }
     ensures cause { HaltCause (F.faults files.old) (F.faults files.new) result }
-    ensures told { IfSome (F.files files.old) (λ told. Gives (graph_at name.now told) result) }
+    ensures told { IfSome (F.files files.old) (λ told. StepGives (Only (graph_at name.now told)) result) }
     ensures graph { IfOk result (λ graph. IsGraph graph) }
     ensures never { IsErrOf result Halt.Usage → ⊥ }
 {
@@ -49,7 +51,7 @@ fn query_of<F: Shelf>(alloc: Global, files: &mut F, name: &str) -> Result<EdgeQu
     ensures words { F.words files.new ≡ F.words files.old }
     ensures files { F.files files.new ≡ F.files files.old }
     ensures cause { HaltCause (F.faults files.old) (F.faults files.new) result }
-    ensures told { IfSome (F.files files.old) (λ told. Gives (query_at name.now told) result) }
+    ensures told { IfSome (F.files files.old) (λ told. StepGives (Only (query_at name.now told)) result) }
     ensures never { IsErrOf result Halt.Usage → ⊥ }
     ensures pattern { IfOk result (λ query. IsPattern query) }
     ensures columns { IfOk result (λ query. (column : _) → IsIn column query.columns → IsOfPattern query column) }
@@ -66,6 +68,25 @@ fn translate<F: Shelf>(
 ) -> Result<List<u8>, Halt>
     requires schema { IsAsked schema.now (F.words files.old) }
     requires query { IsAsked query.now (F.words files.old) }
+    ensures words { F.words files.new ≡ F.words files.old }
+    ensures files { F.files files.new ≡ F.files files.old }
+    ensures cause { HaltCause (F.faults files.old) (F.faults files.new) result }
+    ensures never { IsErrOf result Halt.Usage → ⊥ }
+    ensures told { IfSome (F.files files.old) (λ told. StepWrites (Owes (Some (OfTranslate schema.now query.now)) told) result) }
+{
+    translation(alloc, files, schema, query)
+}
+
+fn translation<F: Shelf>(
+    alloc: Global,
+    files: &mut F,
+    schema: &str,
+    query: &str,
+) -> Result<List<u8>, Halt>
+    requires schema { IsAsked schema.now (F.words files.old) }
+    requires query { IsAsked query.now (F.words files.old) }
+    ensures words { F.words files.new ≡ F.words files.old }
+    ensures files { F.files files.new ≡ F.files files.old }
     ensures cause { HaltCause (F.faults files.old) (F.faults files.new) result }
     ensures never { IsErrOf result Halt.Usage → ⊥ }
     ensures means { IfOk result (λ text. IfSome (F.files files.old) (λ told. IsOkAnd (translate_due schema.now query.now told) (λ due. Means due.0 due.1 text))) }
@@ -86,9 +107,10 @@ pub(crate) fn answer<F: Shelf>(
     files: &mut F,
 ) -> Result<List<u8>, Halt>
     requires { F.words files.old ≡ words.now }
+    ensures words { F.words files.new ≡ F.words files.old }
+    ensures files { F.files files.new ≡ F.files files.old }
     ensures cause { HaltCause (F.faults files.old) (F.faults files.new) result }
-    ensures means { IfOk result (λ text. IfSome (F.files files.old) (λ told. IsOkAnd (asked_due (command_of words.now) told) (λ due. Means due.0 due.1 text))) }
-    ensures halt { IfErr result (λ halt. IfSome (F.files files.old) (λ told. IsHaltOf (asked_due (command_of words.now) told) halt)) }
+    ensures told { IfSome (F.files files.old) (λ told. StepWrites (Owes (command_of words.now) told) result) }
     ensures usage { command_of words.now ≡ None → result ≡ Err Halt.Usage }
     ensures asked { IsErrOf result Halt.Usage → command_of words.now ≡ None }
 {

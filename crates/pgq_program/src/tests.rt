@@ -1,7 +1,10 @@
 ghost use Rattle.std.specs.Prelude.{◌≡◌, ◌∷◌, [], IfOk};
 
+use crate::lines::line_of;
 use crate::{Status, pgq, translate_texts};
-use pgq_base::{List, MemoryShelf, MemorySink, NoMemory, Stop, Text};
+use pgq_base::{
+    Code, Detail, List, MemoryShelf, MemorySink, Name, NoMemory, Refusal, Role, Span, Stop, Text,
+};
 use std::alloc::Global;
 use std::process::Abort;
 use std::test::Fail;
@@ -375,6 +378,35 @@ fn expect_longest_name(rt: &impl Abort, alloc: Global) -> Result<(), NoMemory> {
     expect_name(rt, alloc, 128, done)
 }
 
+// Row by row: a table's name, and how a line has it.
+#[test]
+fn shows_details(rt: HostRuntime) -> Result<(), Fail> {
+    let alloc = rt.alloc();
+    let rows = [
+        ("PERSON", "table:0-0: 905 repeated key: PERSON 4 1\n"),
+        (
+            "we\"ird",
+            "table:0-0: 905 repeated key: \"we\"\"ird\" 4 1\n",
+        ),
+        ("ORDER", "table:0-0: 905 repeated key: \"ORDER\" 4 1\n"),
+        ("person", "table:0-0: 905 repeated key: \"person\" 4 1\n"),
+    ];
+    for (name, line) in rows {
+        let refusal = Refusal {
+            role: Role::Table,
+            span: Span { from: 0, to: 0 },
+            code: Code::RepeatedKey,
+            detail: Detail::At {
+                table: Name::from_bytes(alloc, name.as_bytes())?,
+                row: 4,
+                column: 1,
+            },
+        };
+        assert_eq!(rt; line_of(alloc, &refusal)?.as_slice(), line.as_bytes());
+    }
+    Ok(())
+}
+
 #[test]
 fn keeps_limits(rt: HostRuntime) -> Result<(), Fail> {
     let alloc = rt.alloc();
@@ -435,13 +467,15 @@ fn asks_for_its_words(rt: HostRuntime) -> Result<(), Fail> {
         out: b"",
         err: USAGE.as_bytes(),
     };
-    let forms: [&[&str]; 7] = [
+    let forms: [&[&str]; 9] = [
         &[],
         &["translate"],
         &["translate", "schema"],
         &["translate", "schema", "query", "query"],
         &["TRANSLATE", "schema", "query"],
+        &["check"],
         &["check", "schema"],
+        &["check", "schema", "query"],
         &["sample", "5"],
     ];
     for words in forms {

@@ -1,15 +1,16 @@
 ghost use Rattle.std.specs.Prelude.{◌≡◌, ◌≤◌, None, IfOk, IfErr, IsOkAnd, length};
 ghost use Rattle.multisets.specs.Bags.{IsIn};
 ghost use Rattle.edge_meaning.specs.Queries.{IsGraph, IsPattern, IsOfPattern};
-ghost use Rattle.edge_texts.specs.Refusals.{Gives, refusal_at};
+ghost use Rattle.pgq_base.specs.Answers.{Gives};
+ghost use Rattle.edge_texts.specs.Refusals.{refusal_at};
 ghost use Rattle.pgq_program.specs.Meaning.{Means};
 ghost use Rattle.pgq_program.specs.Texts.{sized, graph_due, edge_query_due, checked, texts_due, IsStopOf};
 
-use edge_texts::{find_fault, read_query, read_schema};
-use edge_meaning::{EdgeGraph, EdgeQuery};
 use edge_lowering::lower;
-use pgq_base::{Code, Detail, List, NoMemory, Refusal, Role, Span, Stop};
+use edge_meaning::{EdgeGraph, EdgeQuery};
 use edge_printer::print;
+use edge_texts::{find_fault, read_query, read_schema};
+use pgq_base::{Code, Detail, List, NoMemory, Refusal, Role, Span, Stop};
 use std::alloc::Global;
 
 /// The greatest size of a schema, query or SQL text, in bytes.

@@ -1,11 +1,12 @@
-ghost use Rattle.std.specs.Prelude.{◌≡◌, ◌⊎◌, ◌≤◌, [], None, Some, IfSome, Ok, Err, IsOk};
+ghost use Rattle.std.specs.Prelude.{◌≡◌, ◌⊎◌, ◌≤◌, [], None, Some, IfSome, Ok, Err};
 ghost use Rattle.std.specs.Io.KnownBytes.{Appends};
 ghost use Rattle.pgq_base.specs.Causes.{Rose};
 ghost use Rattle.pgq_program.specs.declared.halt.Halt.TheVariants.{Refused as IsRefused};
 ghost use Rattle.pgq_program.specs.Commands.{command_of};
-ghost use Rattle.pgq_program.specs.Steps.{asked_due};
-ghost use Rattle.pgq_program.specs.Runs.{IsDue, AnswerCause, status_of, refusal_line};
-ghost use Rattle.pgq_program.specs.Tops.{Ran, Writes};
+ghost use Rattle.pgq_program.specs.Lines.{refusal_line, IsLineOf};
+ghost use Rattle.pgq_program.specs.Outcomes.{Outcome, IsTextOf, Writes};
+ghost use Rattle.pgq_program.specs.Steps.{Owes};
+ghost use Rattle.pgq_program.specs.Runs.{IsDue, AnswerCause, Ran, HasLine, status_of, out_text, err_text};
 
 use crate::answers::Answer;
 use crate::halt::Halt;
@@ -18,10 +19,11 @@ use std::alloc::Global;
 
 /// Does what the words ask for, with the files of the shelf, and puts the outcome on the two sinks.
 ///
-/// `translate SCHEMA QUERY` writes the SQL text that means the query over the tables of the schema. Words of
-/// another form are `Usage`. Things are looked at in this order: the words; the schema file, by its size
-/// and then its form; the query file in the same way; then the query's names. The first of them that
-/// is at fault gives the answer.
+/// `translate SCHEMA QUERY` writes the SQL text that means the query over the tables of the schema, and
+/// `check SCHEMA` writes `ok`. Words of another form are `Usage`. Things are looked at in this order: the
+/// words; the schema file, by its size and then its form, under `check` by its tokens, its grammar and its
+/// rules; the query file, by its size and then its form; then the query's names. The first of them
+/// that is at fault gives the answer.
 ///
 /// The whole text is made before its first byte is put on `out`. Under `Done` `out` receives the text and `err`
 /// nothing; under another status `out` receives nothing and `err` one line, unless a sink fails, which is
@@ -39,16 +41,18 @@ pub fn pgq<F: Shelf, S: Sink, E: Sink>(
     ensures ran { Ran words.now (F.files files.old) (F.faults files.old) (F.faults files.new) result (S.received out.old) (S.received out.new) (S.faults out.old) (S.faults out.new)
         (E.received err.old) (E.received err.new) (E.faults err.old) (E.faults err.new) }
 
-    // What is written means the query: over every instance that fits, the same multiset of rows as its answer.
-    ensures translated { result ≡ Status.Done → IfSome (F.files files.old) (λ told. Writes (asked_due (command_of words.now) told) (S.received out.old) (S.received out.new)) }
+    // What is written is a text of what is due: of `translate` one that means the query, over every instance that fits; of `check` the
+    // line `ok`, and then the schema text is without faults.
+    ensures done { result ≡ Status.Done → IfSome (F.files files.old) (λ told. (outcome : Outcome) × Owes (command_of words.now) told (Ok outcome)
+        × Writes outcome (S.received out.old) (S.received out.new)) }
 
-    // Where a text is due and no count rose, one that means the query is written unless memory is refused.
-    ensures complete { IfSome (F.files files.old) (λ told. (due : _) → asked_due (command_of words.now) told ≡ Ok due
+    // Where a text is due and no count rose, one is written unless memory is refused.
+    ensures complete { IfSome (F.files files.old) (λ told. (outcome : Outcome) → Owes (command_of words.now) told (Ok outcome)
         → (Rose (F.faults files.old) (F.faults files.new) → ⊥) → (Rose (S.faults out.old) (S.faults out.new) → ⊥) → (Rose (E.faults err.old) (E.faults err.new) → ⊥)
-        → ((result ≡ Status.Done) × Writes (asked_due (command_of words.now) told) (S.received out.old) (S.received out.new)) ⊎ (result ≡ Status.NoMemory)) }
+        → ((result ≡ Status.Done) × Writes outcome (S.received out.old) (S.received out.new)) ⊎ (result ≡ Status.NoMemory)) }
 
     // Where a refusal is due and no count rose, its line is written unless memory is refused.
-    ensures refused { IfSome (F.files files.old) (λ told. (refusal : _) → asked_due (command_of words.now) told ≡ Err (IsRefused refusal)
+    ensures refused { IfSome (F.files files.old) (λ told. (refusal : _) → Owes (command_of words.now) told (Err (IsRefused refusal))
         → (Rose (F.faults files.old) (F.faults files.new) → ⊥) → (Rose (S.faults out.old) (S.faults out.new) → ⊥) → (Rose (E.faults err.old) (E.faults err.new) → ⊥)
         → ((result ≡ Status.Refused) × Appends (E.received err.old) (E.received err.new) (refusal_line refusal)) ⊎ (result ≡ Status.NoMemory)) }
 
@@ -65,6 +69,13 @@ pub fn pgq<F: Shelf, S: Sink, E: Sink>(
     // Nothing is on `out` under another status than Done, and nothing on `err` under Done.
     ensures nothing { (result ≡ Status.Done → ⊥) → (result ≡ Status.WriteFault → ⊥) → Appends (S.received out.old) (S.received out.new) [] }
     ensures silent { result ≡ Status.Done → Appends (E.received err.old) (E.received err.new) [] }
+
+    // `err` has the line of the status, whether the files are told or not: that of some refusal under Refused.
+    ensures line { (result ≡ Status.WriteFault → ⊥) → HasLine result (E.received err.old) (E.received err.new) }
+
+    // The shelf stays as it was made, so that it can be used again.
+    ensures words { F.words files.new ≡ F.words files.old }
+    ensures files { F.files files.new ≡ F.files files.old }
 {
     let said = decide(alloc, words, files);
     tell(&said, out, err)
@@ -73,8 +84,28 @@ pub fn pgq<F: Shelf, S: Sink, E: Sink>(
 // What there is to say. No sink is seen before it is decided.
 fn decide<F: Shelf>(alloc: Global, words: &[Text], files: &mut F) -> Answer
     requires { F.words files.old ≡ words.now }
+    ensures words { F.words files.new ≡ F.words files.old }
+    ensures files { F.files files.new ≡ F.files files.old }
     ensures cause { AnswerCause (F.faults files.old) (F.faults files.new) result }
-    ensures due { IfSome (F.files files.old) (λ told. IsDue words.now told result) }
+    ensures due { IfSome (F.files files.old) (λ told. IsDue (Owes (command_of words.now) told) result) }
+    ensures line { IsLineOf (status_of result) (err_text result) }
+    ensures form { command_of words.now ≡ None → status_of result ≡ Status.Usage }
+    ensures usage { status_of result ≡ Status.Usage → command_of words.now ≡ None }
+    ensures complete { IfSome (F.files files.old) (λ told. (outcome : Outcome) → Owes (command_of words.now) told (Ok outcome) → (Rose (F.faults files.old) (F.faults files.new) → ⊥)
+        → ((status_of result ≡ Status.Done) × IsTextOf outcome (out_text result)) ⊎ (status_of result ≡ Status.NoMemory)) }
+    ensures refused { IfSome (F.files files.old) (λ told. (refusal : _) → Owes (command_of words.now) told (Err (IsRefused refusal)) → (Rose (F.faults files.old) (F.faults files.new) → ⊥)
+        → ((status_of result ≡ Status.Refused) × (err_text result ≡ refusal_line refusal)) ⊎ (status_of result ≡ Status.NoMemory)) }
+{
+    answer_of(alloc, words, files)
+}
+
+fn answer_of<F: Shelf>(alloc: Global, words: &[Text], files: &mut F) -> Answer
+    requires { F.words files.old ≡ words.now }
+    ensures words { F.words files.new ≡ F.words files.old }
+    ensures files { F.files files.new ≡ F.files files.old }
+    ensures cause { AnswerCause (F.faults files.old) (F.faults files.new) result }
+    ensures due { IfSome (F.files files.old) (λ told. IsDue (Owes (command_of words.now) told) result) }
+    ensures line { IsLineOf (status_of result) (err_text result) }
     ensures form { command_of words.now ≡ None → status_of result ≡ Status.Usage }
     ensures usage { status_of result ≡ Status.Usage → command_of words.now ≡ None }
 {
