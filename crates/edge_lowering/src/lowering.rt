@@ -7,9 +7,9 @@ ghost use Rattle.edge_meaning.specs.Queries.{IsGraph, IsPattern, IsOfPattern};
 ghost use Rattle.edge_algebra.specs.Meaning.{bag, names_of};
 ghost use Rattle.edge_lowering.specs.Lowered.{lowered_select, from_items, reference, select_column, alias_of};
 
+use edge_algebra::{ColumnLeaf, Equality, FromItem, Select, SelectColumn, SqlQuery};
 use edge_meaning::{EdgeGraph, EdgeQuery, Output, Table};
 use pgq_base::{List, Name, NoMemory};
-use edge_algebra::{ColumnLeaf, Equality, FromItem, Select, SelectColumn, SqlQuery};
 use std::alloc::Global;
 
 /// The SQL query over the tables of the graph that means the answer of the query: over every instance

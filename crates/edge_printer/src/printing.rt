@@ -1,8 +1,8 @@
 ghost use Rattle.std.specs.Prelude.{◌≡◌, ◌++◌, [], IfOk, OnOk, codes};
 ghost use Rattle.edge_algebra.specs.Layout.{layout, select_text, where_text, equality_text, item_text, column_text, leaf_text, separated};
 
-use pgq_base::{List, NoMemory};
 use edge_algebra::{ColumnLeaf, Equality, FromItem, Select, SelectColumn, SqlQuery};
+use pgq_base::{List, NoMemory};
 use std::alloc::Global;
 
 /// The text of the query, by its layout: each select on a line of its own, `UNION ALL` between two, a
