@@ -1,9 +1,5 @@
 -- The text of a day names that day.
-<<<<<<< HEAD
-use Rattle.std.proofs.Common.{◌≡◌, ℕ, zero, suc, ◌+◌, ◌/◌, ◌%◌, ◌<◌, ◌≤◌, Bool, true, false, nat_lt, nat_le, cond, ◌&&◌, List, [], ◌∷◌, length, refl, sym, ap, ◌∙◌, subst, arith, ℤ, pos, neg_ℤ, unsigned_abs, int_le, ◌+ℤ◌, ◌≤ℤ◌, ◌<ℤ◌, ◌⊎◌, inl, inr}
-=======
 use Rattle.std.proofs.Common.{◌≡◌, ℕ, zero, suc, ◌+◌, ◌/◌, ◌%◌, ◌<◌, ◌≤◌, Bool, true, false, nat_lt, nat_le, cond, ◌&&◌, List, [], ◌∷◌, length, refl, sym, ap, ◌∙◌, subst, arith, ℤ, pos, negsuc, neg_ℤ, unsigned_abs, int_le, ◌+ℤ◌, ◌≤ℤ◌, ◌<ℤ◌, ◌⊎◌, inl, inr}
->>>>>>> h5
 use Rattle.std.proofs.lemmas.Bool.{cases_order}
 use Rattle.std.proofs.lemmas.Bool.Decides.{nat_tests}
 use Rattle.std.proofs.lemmas.Str.{IsUtf8-from_ascii, is_utf8-from_IsUtf8}
@@ -97,22 +93,15 @@ right false b h = absurd cc
 day_most : (date : Date) → date.day ≤ℤ pos 2932896
 day_most date = le_z_yes (T_from_true (int_le date.day (pos 2932896)) (right (int_le (neg_ℤ (pos 719162)) date.day) (int_le date.day (pos 2932896)) date.civil))
 
-<<<<<<< HEAD
-=======
 whole : (z : ℤ) → pos 0 ≤ℤ z → pos (unsigned_abs z) ≡ z
 whole (pos n) h = refl
 whole (negsuc n) h = absurd (omega (arith, signed_arith, h))
 
->>>>>>> h5
 pub day_text_names : (date : Date) → IsDateText (day_text date.day) date.day
 unfolding day_text
 day_text_names date =
     let n = unsigned_abs (date.day +ℤ pos 719162) in
-<<<<<<< HEAD
-    let number : pos n ≡ date.day +ℤ pos 719162 = omega (arith, signed_arith, day_least date) in
-=======
     let number : pos n ≡ date.day +ℤ pos 719162 = whole (date.day +ℤ pos 719162) (omega (arith, signed_arith, day_least date)) in
->>>>>>> h5
     let most : n ≤ 3652058 = omega (arith, signed_arith, number, day_most date) in
     let c = civil_after n in
     let h = counts n in
@@ -127,25 +116,6 @@ day_text_names date =
 
 -- ---- its bytes
 
-<<<<<<< HEAD
-no_bytes : IsAscii []
-no_bytes i = omega arith
-
-one_byte : (b : ℕ) (bs : List ℕ) → b < 128 → IsAscii bs → IsAscii (b ∷ bs)
-one_byte b bs h k zero = h
-one_byte b bs h k (suc i) = k i
-
-abbrev digit : ℕ → ℕ
-digit n = 48 + n % 10
-
-digit_small : (n : ℕ) → digit n < 128
-digit_small n = omega arith
-
-ascii : (y m d : ℕ) → IsAscii (date_text y m d)
-ascii y m d =
-    one_byte _ _ (digit_small (y / 100 / 10)) (one_byte _ _ (digit_small (y / 100)) (one_byte _ _ (digit_small (y / 10)) (one_byte _ _ (digit_small y) (one_byte 45 _ (omega arith)
-    (one_byte _ _ (digit_small (m / 10)) (one_byte _ _ (digit_small m) (one_byte 45 _ (omega arith) (one_byte _ _ (digit_small (d / 10)) (one_byte _ _ (digit_small d) no_bytes)))))))))
-=======
 record Ascii (bytes : List ℕ) : Type 0 where
   are : IsAscii bytes
 
@@ -162,13 +132,8 @@ ascii : (y m d : ℕ) → Ascii (date_text y m d)
 ascii y m d =
     one_byte (digit_small (y / 100 / 10)) (one_byte (digit_small (y / 100)) (one_byte (digit_small (y / 10)) (one_byte (digit_small y) (one_byte (omega arith)
     (one_byte (digit_small (m / 10)) (one_byte (digit_small m) (one_byte (omega arith) (one_byte (digit_small (d / 10)) (one_byte (digit_small d) no_bytes)))))))))
->>>>>>> h5
 
 -- it is short enough for a literal
 pub day_text_fits : (day : ℤ) → (nat_le (length (day_text day)) 1024 && is_utf8 (day_text day)) ≡ true
 unfolding day_text
-<<<<<<< HEAD
-day_text_fits day = let c = civil_after (unsigned_abs (day +ℤ pos 719162)) in is_utf8-from_IsUtf8 (civil_text c) (IsUtf8-from_ascii (civil_text c) (ascii c.year c.month c.day))
-=======
 day_text_fits day = let c = civil_after (unsigned_abs (day +ℤ pos 719162)) in is_utf8-from_IsUtf8 (civil_text c) (IsUtf8-from_ascii (civil_text c) (ascii c.year c.month c.day).are)
->>>>>>> h5
