@@ -1,3 +1,4 @@
+pub mod Checked
 pub mod Given
 pub mod OneDue
 pub mod Translated

@@ -1,10 +1,20 @@
 -- What the words are due is one answer.
-use Rattle.std.proofs.Common.{◌≡◌, sym, ap, ◌∙◌, subst, ℕ, List, Option, None, Some, inl, inr, Result, Ok, Err}
+use Rattle.std.proofs.Common.{◌≡◌, sym, ap, ap₂, ◌∙◌, subst, ℕ, List, length, Option, None, Some, inl, inr, Result, Ok, Err}
+use Rattle.pgq_base.specs.declared.refusal.Refusal.{Refusal}
+use Rattle.pgq_base.specs.declared.refusal.Role.TheVariants.{Schema}
+use Rattle.sql_lexer.specs.declared.token.Token.{Token}
+use Rattle.sql_lexer.specs.Texts.{refusal}
+use Rattle.sql_lexer.proofs.Uniqueness.{tokens_unique, fault_unique, fault_excludes}
+use Rattle.graph_ast.specs.declared.schema.SchemaTree.{SchemaTree}
+use Rattle.schema_parser.specs.Outcomes.{IsOutcome}
+use Rattle.schema_parser.proofs.Whole.{one_outcome}
 use Rattle.pgq_program.specs.declared.halt.Halt.{Halt}
+use Rattle.pgq_program.specs.declared.halt.Halt.TheVariants as h
 use Rattle.pgq_program.specs.Chains.{Then, Only}
 use Rattle.pgq_program.specs.Commands.{Asked}
 use Rattle.pgq_program.specs.Outcomes.{Outcome}
-use Rattle.pgq_program.specs.Steps.{Owes, translate_due}
+use Rattle.pgq_program.specs.Schemas.{IsLexed, IsChecked, IsRead}
+use Rattle.pgq_program.specs.Steps.{Halted, IsCatalogAt, Owes, text_at, translate_due}
 
 abbrev pub IsSingle : {A E : Type 0} → (Result A E → Type 0) → Type 0
 IsSingle {A} {E} due = (x y : Result A E) → due x → due y → x ≡ y
@@ -36,8 +46,46 @@ module _ {A B E : Type 0} (first : Result A E → Type 0) (following : A → Res
   single_then (Err e) (Err f) (inr (a, p, q)) (inl r) = absurd (ok_not_err a f (one (Ok a) (Err f) p r))
   single_then (Err e) (Err f) (inr (a, p, q)) (inr (b, r, t)) = each a (Err e) (Err f) q (same_step a b (Err f) p r t)
 
+single_lexed : (text : List ℕ) → IsSingle (IsLexed text)
+single_lexed text (Ok xs) (Ok ys) p q = ap Ok (tokens_unique text xs ys p.0 q.0)
+single_lexed text (Ok xs) (Err f) p q = absurd (fault_excludes text xs f.code f.span p.0 p.1 q.1)
+single_lexed text (Err e) (Ok ys) p q = absurd (fault_excludes text ys e.code e.span q.0 q.1 p.1)
+single_lexed text (Err e) (Err f) p q = let u = fault_unique text e.code f.code e.span f.span p.1 q.1 in ap Err (p.0 ∙ ap₂ (refusal Schema) u.0 u.1 ∙ sym q.0)
+
+single_parsed : (end : ℕ) (tokens : List Token) → IsSingle (IsOutcome tokens end)
+single_parsed end tokens = one_outcome tokens end
+
+single_checked : (tree : SchemaTree) → IsSingle (IsChecked tree)
+single_checked tree (Ok x) (Ok y) p q = cc
+single_checked tree (Ok x) (Err f) p q = cc
+single_checked tree (Err e) (Ok y) p q = cc
+single_checked tree (Err e) (Err f) p q = cc
+
+single_read : (text : List ℕ) → IsSingle (IsRead text)
+single_read text = single_then (IsLexed text) (λ tokens. Then (IsOutcome tokens (length text)) IsChecked) (single_lexed text)
+    (λ tokens. single_then (IsOutcome tokens (length text)) IsChecked (single_parsed (length text) tokens) single_checked)
+
+single_halted : {A : Type 0} (due : Result A Refusal → Type 0) → IsSingle due → IsSingle (Halted due)
+single_halted due one (Ok x) (Ok y) p q = ap Ok (ok_inside x y (one (Ok x) (Ok y) p q))
+single_halted due one (Ok x) (Err (h.Refused f)) p q = absurd (ok_not_err x f (one (Ok x) (Err f) p q))
+single_halted due one (Err (h.Refused e)) (Ok y) p q = absurd (ok_not_err y e (one (Ok y) (Err e) q p))
+single_halted due one (Err (h.Refused e)) (Err (h.Refused f)) p q = ap (λ r. Err (h.Refused r)) (err_inside e f (one (Err e) (Err f) p q))
+single_halted due one (Ok x) (Err h.Usage) p q = absurd q
+single_halted due one (Ok x) (Err h.ReadFault) p q = absurd q
+single_halted due one (Ok x) (Err h.NoMemory) p q = absurd q
+single_halted due one (Err (h.Refused e)) (Err h.Usage) p q = absurd q
+single_halted due one (Err (h.Refused e)) (Err h.ReadFault) p q = absurd q
+single_halted due one (Err (h.Refused e)) (Err h.NoMemory) p q = absurd q
+single_halted due one (Err h.Usage) y p q = absurd p
+single_halted due one (Err h.ReadFault) y p q = absurd p
+single_halted due one (Err h.NoMemory) y p q = absurd p
+
 -- the words are due one answer
 pub single_owes : (asked : Option Asked) (files : List (List ℕ × List ℕ)) (x y : Result Outcome Halt) → Owes asked files x → Owes asked files y → x ≡ y
 single_owes None files = λ x y p q. p ∙ sym q
 single_owes (Some (Asked.OfTranslate schema query)) files =
     single_then (Only (translate_due schema query files)) (λ checked. Only (Ok (Outcome.Translation checked.0 checked.1))) (single_only (translate_due schema query files)) (λ checked. single_only (Ok (Outcome.Translation checked.0 checked.1)))
+single_owes (Some (Asked.OfCheck schema)) files =
+    single_then (IsCatalogAt schema files) (λ catalog. Only (Ok Outcome.Sound))
+    (single_then (Only (text_at Schema schema files)) (λ text. Halted (IsRead text)) (single_only (text_at Schema schema files)) (λ text. single_halted (IsRead text) (single_read text)))
+    (λ catalog. single_only (Ok Outcome.Sound))

@@ -4,5 +4,6 @@ pub mod Lines
 pub mod Meaning
 pub mod Outcomes
 pub mod Runs
+pub mod Schemas
 pub mod Steps
 pub mod Texts

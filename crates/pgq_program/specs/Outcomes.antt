@@ -1,17 +1,19 @@
 -- What is written under Done.
-use Rattle.std.specs.Prelude.{ℕ, List, Option}
+use Rattle.std.specs.Prelude.{◌≡◌, ℕ, List, Option, codes}
 use Rattle.std.specs.Io.KnownBytes.{Appends}
 use Rattle.edge_meaning.specs.declared.graph.EdgeGraph.{EdgeGraph}
 use Rattle.edge_meaning.specs.declared.query.EdgeQuery.{EdgeQuery}
 use Rattle.pgq_program.specs.Meaning.{Means}
 
--- the outcome of a command: a query over a graph, of which a text that means it is written
+-- the outcome of a command: a query over a graph, of which a text that means it is written, or that a text is without faults
 pub data Outcome : Type 0 where
   Translation : EdgeGraph → EdgeQuery → Outcome
+  Sound : Outcome
 
 -- the texts of an outcome
 abbrev pub IsTextOf : Outcome → List ℕ → Type 0
 IsTextOf (Outcome.Translation graph query) text = Means graph query text
+IsTextOf Outcome.Sound text = text ≡ codes "ok\n"
 
 -- a text of the outcome was written whole
 pub record Writes (outcome : Outcome) (old new : Option (List ℕ)) : Type 0 where

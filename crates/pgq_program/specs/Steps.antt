@@ -7,6 +7,7 @@ use Rattle.pgq_base.specs.declared.refusal.Role.TheVariants.{Schema, Query}
 use Rattle.pgq_base.specs.declared.refusal.Refusal.{Refusal}
 use Rattle.pgq_base.specs.declared.refusal.Stop.{Stop}
 use Rattle.pgq_base.specs.declared.refusal.Stop.TheVariants as s
+use Rattle.graph_ast.specs.declared.catalog.Catalog.{Catalog}
 use Rattle.edge_meaning.specs.declared.graph.EdgeGraph.{EdgeGraph}
 use Rattle.edge_meaning.specs.declared.query.EdgeQuery.{EdgeQuery}
 use Rattle.edge_texts.specs.Refusals.{schema_due}
@@ -16,6 +17,7 @@ use Rattle.pgq_program.specs.declared.halt.Halt.TheVariants as h
 use Rattle.pgq_program.specs.Commands.{Asked}
 use Rattle.pgq_program.specs.Chains.{Then, Only}
 use Rattle.pgq_program.specs.Outcomes.{Outcome, IsTextOf}
+use Rattle.pgq_program.specs.Schemas.{IsRead}
 use Rattle.pgq_program.specs.Texts.{next, sized, checked, Checked}
 
 -- a stop of a call halts the run
@@ -47,10 +49,23 @@ query_at name files = next (text_at Query name files) (λ text. halting (query_d
 abbrev pub translate_due : List ℕ → List ℕ → List (List ℕ × List ℕ) → Result Checked Halt
 translate_due schema query files = next (graph_at schema files) (λ graph. next (query_at query files) (λ asked. halting (checked graph asked)))
 
+-- what is due a step that reads no file
+abbrev pub Halted : {A : Type 0} → (Result A Refusal → Type 0) → Result A Halt → Type 0
+Halted due (Ok x) = due (Ok x)
+Halted due (Err (h.Refused refusal)) = due (Err refusal)
+Halted due (Err h.Usage) = ⊥
+Halted due (Err h.ReadFault) = ⊥
+Halted due (Err h.NoMemory) = ⊥
+
+-- the schema file is read, and then looked at
+abbrev pub IsCatalogAt : List ℕ → List (List ℕ × List ℕ) → Result Catalog Halt → Type 0
+IsCatalogAt name files answer = Then (Only (text_at Schema name files)) (λ text. Halted (IsRead text)) answer
+
 -- what the words are due
 abbrev pub Owes : Option Asked → List (List ℕ × List ℕ) → Result Outcome Halt → Type 0
 Owes None files answer = answer ≡ Err h.Usage
 Owes (Some (Asked.OfTranslate schema query)) files answer = Then (Only (translate_due schema query files)) (λ checked. Only (Ok (Outcome.Translation checked.0 checked.1))) answer
+Owes (Some (Asked.OfCheck schema)) files answer = Then (IsCatalogAt schema files) (λ catalog. Only (Ok Outcome.Sound)) answer
 
 -- this answer is due, or it is want of memory or a fault, which have their own clauses
 abbrev pub StepGives : {A : Type 0} → (Result A Halt → Type 0) → Result A Halt → Type 0

@@ -47,3 +47,9 @@ texts_due schema query = next (graph_due schema) (λ graph. next (edge_query_due
 abbrev pub IsStopOf : {A : Type 0} → Result A Refusal → Stop Refusal → Type 0
 IsStopOf due (s.Refused refusal) = due ≡ Err refusal
 IsStopOf due s.NoMemory = Unit {0}
+
+-- the call answers what is due by a relation, unless memory runs out
+abbrev pub GivesDue : {A : Type 0} → (Result A Refusal → Type 0) → Result A (Stop Refusal) → Type 0
+GivesDue due (Ok x) = due (Ok x)
+GivesDue due (Err (s.Refused refusal)) = due (Err refusal)
+GivesDue due (Err s.NoMemory) = Unit {0}

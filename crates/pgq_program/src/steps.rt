@@ -3,17 +3,20 @@ ghost use Rattle.multisets.specs.Bags.{IsIn};
 ghost use Rattle.edge_meaning.specs.Queries.{IsGraph, IsPattern, IsOfPattern};
 ghost use Rattle.pgq_base.specs.Files.{IsAsked};
 ghost use Rattle.pgq_program.specs.Chains.{Only};
-ghost use Rattle.pgq_program.specs.Commands.Asked.{OfTranslate};
+ghost use Rattle.pgq_program.specs.Commands.Asked.{OfTranslate, OfCheck};
 ghost use Rattle.pgq_program.specs.Commands.{command_of};
 ghost use Rattle.pgq_program.specs.Meaning.{Means};
-ghost use Rattle.pgq_program.specs.Steps.{StepGives, StepWrites, IsHaltOf, HaltCause, text_at, graph_at, query_at, translate_due, Owes};
+ghost use Rattle.pgq_program.specs.Schemas.{IsRead};
+ghost use Rattle.pgq_program.specs.Steps.{StepGives, StepWrites, IsHaltOf, HaltCause, text_at, graph_at, query_at, translate_due, Halted, IsCatalogAt, Owes};
 
 use crate::halt::Halt;
+use crate::schemas::read_catalog;
 use crate::texts::{TEXT_LIMIT, sql_text, too_large};
 use crate::words::{Command, read_words};
 use edge_meaning::{EdgeGraph, EdgeQuery};
 use edge_texts::{find_fault, read_query, read_schema};
-use pgq_base::{List, LoadStop, Role, Shelf, Text, load};
+use graph_ast::Catalog;
+use pgq_base::{List, LoadStop, Role, Shelf, Stop, Text, load};
 use std::alloc::Global;
 
 fn text_of<F: Shelf>(alloc: Global, files: &mut F, role: Role, name: &str) -> Result<List<u8>, Halt>
@@ -100,6 +103,45 @@ fn translation<F: Shelf>(
     Ok(sql_text(alloc, &graph, &query)?)
 }
 
+fn catalog_in(alloc: Global, text: &[u8]) -> Result<Catalog, Halt>
+    requires { length text.now ≤ 1048576 }
+    ensures due { StepGives (Halted (IsRead text.now)) result }
+    ensures never { IsErrOf result Halt.Usage → ⊥ }
+    ensures calm { IsErrOf result Halt.ReadFault → ⊥ }
+{
+    match read_catalog(alloc, text) {
+        Ok(catalog) => Ok(catalog),
+        Err(Stop::Refused(refusal)) => Err(Halt::Refused(refusal)),
+        Err(Stop::NoMemory) => Err(Halt::NoMemory),
+    }
+}
+
+fn catalog_of<F: Shelf>(alloc: Global, files: &mut F, name: &str) -> Result<Catalog, Halt>
+    requires { IsAsked name.now (F.words files.old) }
+    ensures words { F.words files.new ≡ F.words files.old }
+    ensures files { F.files files.new ≡ F.files files.old }
+    ensures cause { HaltCause (F.faults files.old) (F.faults files.new) result }
+    ensures told { IfSome (F.files files.old) (λ told. StepGives (IsCatalogAt name.now told) result) }
+    ensures never { IsErrOf result Halt.Usage → ⊥ }
+{
+    let text = text_of(alloc, files, Role::Schema, name)?;
+    catalog_in(alloc, text.as_slice())
+}
+
+fn check<F: Shelf>(alloc: Global, files: &mut F, schema: &str) -> Result<List<u8>, Halt>
+    requires { IsAsked schema.now (F.words files.old) }
+    ensures words { F.words files.new ≡ F.words files.old }
+    ensures files { F.files files.new ≡ F.files files.old }
+    ensures cause { HaltCause (F.faults files.old) (F.faults files.new) result }
+    ensures never { IsErrOf result Halt.Usage → ⊥ }
+    ensures told { IfSome (F.files files.old) (λ told. StepWrites (Owes (Some (OfCheck schema.now)) told) result) }
+{
+    let _ = catalog_of(alloc, files, schema)?;
+    let mut text = List::new(alloc);
+    text.extend(b"ok\n")?;
+    Ok(text)
+}
+
 /// The text that the words ask for.
 pub(crate) fn answer<F: Shelf>(
     alloc: Global,
@@ -117,5 +159,6 @@ pub(crate) fn answer<F: Shelf>(
     match read_words(words) {
         None => Err(Halt::Usage),
         Some(Command::Translate(schema, query)) => translate(alloc, files, schema, query),
+        Some(Command::Check(schema)) => check(alloc, files, schema),
     }
 }

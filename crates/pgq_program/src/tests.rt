@@ -378,6 +378,50 @@ fn expect_longest_name(rt: &impl Abort, alloc: Global) -> Result<(), NoMemory> {
     expect_name(rt, alloc, 128, done)
 }
 
+const CHECK: [&str; 2] = ["check", "schema"];
+
+const CHECKED: Wanted<'static> = Wanted {
+    status: Status::Done,
+    out: b"ok\n",
+    err: b"",
+};
+
+static SCHEMAS: [(&str, Wanted<'static>); 4] = [
+    (SCHEMA, CHECKED),
+    ("CREATE TABLE t (a DATE);", CHECKED),
+    (
+        "CREATE TABLE t (a INTEGER, a INTEGER);",
+        Wanted {
+            status: Status::Refused,
+            out: b"",
+            err: b"schema:27-28: 302 duplicate column\n",
+        },
+    ),
+    (
+        "CREATE TABLE t (a INTEGER); CREATE PROPERTY GRAPH g VERTEX TABLES (t);",
+        Wanted {
+            status: Status::Refused,
+            out: b"",
+            err: b"schema:67-68: 403 no key\n",
+        },
+    ),
+];
+
+#[test]
+fn checks_schemas(rt: HostRuntime) -> Result<(), Fail> {
+    let alloc = rt.alloc();
+    for (schema, wanted) in &SCHEMAS {
+        expect(&rt, alloc, &CHECK, schema.as_bytes(), b"", SOUND, *wanted)?;
+    }
+    let largest = refused("schema:1048576-1048576: 201 unexpected\n");
+    let spaces = filled(alloc, b"", b' ', 1_048_576, b"")?;
+    expect(&rt, alloc, &CHECK, spaces.as_slice(), b"", SOUND, largest)?;
+    let too_large = refused("schema:0-0: 107 text too large\n");
+    let spaces = filled(alloc, b"", b' ', 1_048_577, b"")?;
+    expect(&rt, alloc, &CHECK, spaces.as_slice(), b"", SOUND, too_large)?;
+    Ok(())
+}
+
 // Row by row: a table's name, and how a line has it.
 #[test]
 fn shows_details(rt: HostRuntime) -> Result<(), Fail> {
@@ -467,14 +511,13 @@ fn asks_for_its_words(rt: HostRuntime) -> Result<(), Fail> {
         out: b"",
         err: USAGE.as_bytes(),
     };
-    let forms: [&[&str]; 9] = [
+    let forms: [&[&str]; 8] = [
         &[],
         &["translate"],
         &["translate", "schema"],
         &["translate", "schema", "query", "query"],
         &["TRANSLATE", "schema", "query"],
         &["check"],
-        &["check", "schema"],
         &["check", "schema", "query"],
         &["sample", "5"],
     ];

@@ -7,6 +7,7 @@ use pgq_base::Text;
 #[derive(Clone, Copy)]
 pub(crate) enum Command<'a> {
     Translate(&'a str, &'a str),
+    Check(&'a str),
 }
 
 /// The command of the words; None where they have another form.
@@ -18,6 +19,7 @@ pub(crate) fn read_words(words: &[Text]) -> Option<Command<'_>>
         [command, schema, query] if command.as_text() == "translate" => {
             Some(Command::Translate(schema.as_text(), query.as_text()))
         }
+        [command, schema] if command.as_text() == "check" => Some(Command::Check(schema.as_text())),
         _ => None,
     }
 }

@@ -1,0 +1,21 @@
+ghost use Rattle.std.specs.Prelude.{◌≤◌, length};
+ghost use Rattle.pgq_program.specs.Schemas.{IsRead};
+ghost use Rattle.pgq_program.specs.Texts.{GivesDue};
+
+use crate::texts::{TEXT_LIMIT, too_large};
+use graph_ast::Catalog;
+use pgq_base::{Role, Stop};
+use schema_parser::parse_schema;
+use sql_lexer::lex;
+use std::alloc::Global;
+use view_check::check_schema;
+
+/// The catalog of a schema text that is not too large.
+pub(crate) fn read_catalog(alloc: Global, text: &[u8]) -> Result<Catalog, Stop>
+    requires { length text.now ≤ 1048576 }
+    ensures { GivesDue (IsRead text.now) result }
+{
+    let tokens = lex(alloc, text, Role::Schema)?;
+    let tree = parse_schema(alloc, tokens.as_slice(), text.len() as u32)?;
+    check_schema(alloc, &tree)
+}
