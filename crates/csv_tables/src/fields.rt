@@ -1,6 +1,6 @@
 ghost use Rattle.std.specs.Prelude.{◌≡◌, ◌≤◌, ◌^◌, nat_le, chars, length, IfOk, option_map, option_and_then};
 ghost use Rattle.csv_tables.specs.Fields.{date_written, field_value, text_of_bytes, text_written, truth_written, written};
-ghost use Rattle.csv_tables.specs.Within.{has_digits, is_within};
+ghost use Rattle.csv_tables.specs.Within.{has_digits, is_between, is_within};
 
 use crate::numbers::{read_decimal, read_number};
 use civil_dates::date_of_text;
@@ -72,6 +72,12 @@ fn read_written(
     }
 }
 
+fn is_between(least: i64, most: i64, n: i64) -> bool
+    ensures { result ≡ is_between least most n }
+{
+    least <= n && n <= most
+}
+
 // Whether a text has at most so many characters.
 fn is_short(text: &str, most: u32) -> bool
     ensures { result ≡ nat_le (length (chars text.now)) most }
@@ -103,9 +109,9 @@ fn is_within(kind: ColumnType, value: &Value) -> bool
 {
     match (kind, value) {
         (_, Value::Null) => true,
-        (ColumnType::SmallInt, Value::Number(n)) => -(1 << 15) <= *n && *n < 1 << 15,
-        (ColumnType::Integer, Value::Number(n)) => -(1 << 31) <= *n && *n < 1 << 31,
-        (ColumnType::BigInt, Value::Number(_)) => true,
+        (ColumnType::SmallInt, Value::Number(n)) => is_between(-32_768, 32_767, *n),
+        (ColumnType::Integer, Value::Number(n)) => is_between(-2_147_483_648, 2_147_483_647, *n),
+        (ColumnType::BigInt, Value::Number(n)) => is_between(i64::MIN, i64::MAX, *n),
         (ColumnType::Decimal(digits), Value::Number(n)) => has_digits(digits, *n, 0),
         (ColumnType::Decimal(digits), Value::Decimal(decimal)) => {
             has_digits(digits, decimal.unscaled, decimal.scale)
