@@ -1,5 +1,6 @@
 -- What a call on tables answers: what is due, or the refusal that tells the first fault, or that memory ran out.
-use Rattle.std.specs.Prelude.{◌≡◌, ℕ, map, List, [], ◌∷◌, Result, Ok, Err, result_map_both}
+use Rattle.std.specs.Prelude.{◌≡◌, ℕ, map, List, [], ◌∷◌, Result, Ok, Err}
+use Rattle.std.specs.Result.{result_map_both}
 use Rattle.pgq_base.specs.declared.rows.Row.{Row}
 use Rattle.pgq_base.specs.declared.rows.Rows.{Rows}
 use Rattle.pgq_base.specs.Instances.{RowValues, TableRows}
