@@ -19,3 +19,5 @@ pub use laws::{
 pub use reading::read_table;
 pub use writing::{one_table_text, write_rows};
 
+#[cfg(test)]
+mod tests;
