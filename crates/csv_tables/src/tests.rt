@@ -33,6 +33,15 @@ fn one<T: Drop>(alloc: Global, item: T) -> Result<List<T>, NoMemory>
     Ok(list)
 }
 
+fn two<T: Drop>(alloc: Global, first: T, second: T) -> Result<List<T>, NoMemory>
+    ensures { IfOk result (λ list. list ≡ first ∷ second ∷ []) }
+{
+    let mut list = List::new(alloc);
+    list.push(first)?;
+    list.push(second)?;
+    Ok(list)
+}
+
 fn first_key(alloc: Global) -> Result<List<Key>, NoMemory>
     ensures { IfOk result (λ keys. All (λ key. IsNumbered key.columns) keys) }
 {
@@ -44,6 +53,21 @@ fn first_key(alloc: Global) -> Result<List<Key>, NoMemory>
             primary: true,
         },
     )
+}
+
+// The first column is the primary key, and the second is unique.
+fn two_keys(alloc: Global) -> Result<List<Key>, NoMemory>
+    ensures { IfOk result (λ keys. All (λ key. IsNumbered key.columns) keys) }
+{
+    let first = Key {
+        columns: one(alloc, 0)?,
+        primary: true,
+    };
+    let second = Key {
+        columns: one(alloc, 1)?,
+        primary: false,
+    };
+    two(alloc, first, second)
 }
 
 fn person(alloc: Global) -> Result<Table, Fail>
@@ -94,15 +118,10 @@ fn prices(alloc: Global) -> Result<Table, Fail>
     let mut columns = List::new(alloc);
     columns.push(column(alloc, b"P", price, true)?)?;
     columns.push(column(alloc, b"ON", ColumnType::Date, false)?)?;
-    let mut keys = first_key(alloc)?;
-    keys.push(Key {
-        columns: one(alloc, 1)?,
-        primary: false,
-    })?;
     Ok(Table {
         name: name(alloc, b"PRICE")?,
         columns,
-        keys,
+        keys: two_keys(alloc)?,
         references: List::new(alloc),
     })
 }
