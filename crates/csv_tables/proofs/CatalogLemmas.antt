@@ -1,5 +1,5 @@
 -- The columns of a valid catalog have numbers of 32 bits.
-use Rattle.std.proofs.Common.{◌≡◌, ℕ, zero, suc, ◌+◌, ◌<◌, ◌≤◌, ◌^◌, inl, inr, List, [], ◌∷◌, length, get_or, refl, arith}
+use Rattle.std.proofs.Common.{ℕ, zero, suc, ◌<◌, ◌^◌, inl, inr, List, [], ◌∷◌, length, get_or, refl, arith}
 use Rattle.std.specs.Prelude.{All}
 use Rattle.multisets.specs.Bags.{IsIn}
 use Rattle.graph_ast.specs.declared.catalog.Catalog.{Catalog}

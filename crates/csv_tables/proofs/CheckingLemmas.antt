@@ -1,5 +1,6 @@
 -- Loops over the rows of a table.
-use Rattle.std.proofs.Common.{◌≡◌, ℕ, ◌+◌, ◌<◌, ◌≤◌, Bool, true, false, cond, List, [], ◌∷◌, ◌++◌, map, take, drop, length, get_or, Option, Some, None, refl, sym, ap, ◌∙◌, arith, add-one}
+use Rattle.std.proofs.Common.{◌≡◌, ℕ, ◌+◌, ◌<◌, ◌≤◌, Bool, true, false, cond, List, [], ◌∷◌, ◌++◌, map, take, drop, length, get_or, Option, Some, None, refl, sym, ap, ◌∙◌, arith}
+use Rattle.std.proofs.Common.{add-one}
 use Rattle.std.specs.Prelude.{◌||◌, ◌&&◌, not, if◌then◌else◌}
 use Rattle.std.specs.List.{list_any}
 use Rattle.std.proofs.lemmas.List.{get_or-map, length-map, length-take, take_more, drop_all}
@@ -44,14 +45,16 @@ length_before : (rows : List Row) (i : ℕ) → i ≤ length rows → length (be
 length_before rows i h = let size = length-map rows values_of in let taken = length-take i (map values_of rows) in omega arith
 
 -- a row breaks a constraint
-pub breaks_here : (breaks : TableRows → RowValues → Bool) (rows : List Row) (i : ℕ) (row : Row) → i < length rows → row ≡ get_or rows i row → breaks (before rows i) row.values ≡ true
+pub breaks_here : (breaks : TableRows → RowValues → Bool) (rows : List Row) (i : ℕ) (row : Row) → i < length rows → row ≡ get_or rows i row
+    → breaks (before rows i) row.values ≡ true
     → first_break breaks (before rows i) (drop i (map values_of rows)) ≡ Some (i + 1)
 breaks_here breaks rows i row h e b =
     let size = length_before rows i (omega arith) in
     ap (first_break breaks (before rows i)) (after_more rows i row h e) ∙ (rw b (ap (λ n. Some (n + 1)) size))
 
 -- or it does not
-pub breaks_later : (breaks : TableRows → RowValues → Bool) (rows : List Row) (i : ℕ) (row : Row) → i < length rows → row ≡ get_or rows i row → breaks (before rows i) row.values ≡ false
+pub breaks_later : (breaks : TableRows → RowValues → Bool) (rows : List Row) (i : ℕ) (row : Row) → i < length rows → row ≡ get_or rows i row
+    → breaks (before rows i) row.values ≡ false
     → first_break breaks (before rows i) (drop i (map values_of rows)) ≡ first_break breaks (before rows (i + 1)) (drop (i + 1) (map values_of rows))
 breaks_later breaks rows i row h e b =
     ap (first_break breaks (before rows i)) (after_more rows i row h e)
@@ -76,11 +79,13 @@ values_more columns rows i row values h e =
     sym (ap (list_any has) (before_more rows i row h e) ∙ (list_any-append has (before rows i) (row.values ∷ []) ∙ or_last (list_any has (before rows i)) (has row.values)))
 
 -- a row repeats the values of an earlier one where the set of the keys so far holds them
-pub repeats_so : (columns : List ℕ) (seen : BTreeSet KeyOf) (rows : List Row) (i : ℕ) (row : RowValues) → ((values : List Value) → holds seen values ≡ has_values columns (before rows i) values)
+pub repeats_so : (columns : List ℕ) (seen : BTreeSet KeyOf) (rows : List Row) (i : ℕ) (row : RowValues)
+    → ((values : List Value) → holds seen values ≡ has_values columns (before rows i) values)
     → (not (has_null (values_at columns row)) && holds seen (values_at columns row)) ≡ repeats columns (before rows i) row
 repeats_so columns seen rows i row held = ap (λ b. not (has_null (values_at columns row)) && b) (held (values_at columns row))
 
-pub dangles_so : (columns places : List ℕ) (targets : BTreeSet KeyOf) (target earlier : TableRows) (row : RowValues) → ((values : List Value) → holds targets values ≡ has_values places target values)
+pub dangles_so : (columns places : List ℕ) (targets : BTreeSet KeyOf) (target earlier : TableRows) (row : RowValues)
+    → ((values : List Value) → holds targets values ≡ has_values places target values)
     → (not (has_null (values_at columns row)) && not (holds targets (values_at columns row))) ≡ dangles columns places target earlier row
 dangles_so columns places targets target earlier row held = ap (λ b. not (has_null (values_at columns row)) && not b) (held (values_at columns row))
 
@@ -89,7 +94,8 @@ break_behind : (breaks : TableRows → RowValues → Bool) (earlier rows : Table
 break_behind breaks earlier [] n e = cc
 break_behind breaks earlier (row ∷ rows) n e = by (breaks earlier row) (break_behind breaks (earlier ++ row ∷ []) rows n) e
   where
-    by : (b : Bool) → (first_break breaks (earlier ++ row ∷ []) rows ≡ Some n → length (earlier ++ row ∷ []) < n) → cond b (Some (length earlier + 1)) (first_break breaks (earlier ++ row ∷ []) rows) ≡ Some n
+    by : (b : Bool) → (first_break breaks (earlier ++ row ∷ []) rows ≡ Some n → length (earlier ++ row ∷ []) < n)
+        → cond b (Some (length earlier + 1)) (first_break breaks (earlier ++ row ∷ []) rows) ≡ Some n
         → length earlier < n
     by true more e = let same : length earlier + 1 ≡ n = some_same e in omega arith
     by false more e = let longer = length-append earlier (row ∷ []) in let later = more e in omega arith
@@ -116,7 +122,8 @@ find_more p (x ∷ xs) c = by (p x) (find_more p xs c)
     by true more = refl
     by false more = more
 
-not_sooner : (fault : TableFault) (c : Constraint) (o : Option ℕ) → ((n : ℕ) → o ≡ Some n → fault.row ≤ n) → earlier_of (Some fault) (option_map (λ n. fault_of n c) o) ≡ Some fault
+not_sooner : (fault : TableFault) (c : Constraint) (o : Option ℕ) → ((n : ℕ) → o ≡ Some n → fault.row ≤ n)
+    → earlier_of (Some fault) (option_map (λ n. fault_of n c) o) ≡ Some fault
 not_sooner fault c None h = refl
 not_sooner fault c (Some n) h = let late = h n refl in let less : nat_lt n fault.row ≡ false = grind arith in rw less refl
 
@@ -130,7 +137,8 @@ pub one_more_constraint : (constraints : List Constraint) (c : Constraint) (earl
 one_more_constraint constraints c earlier [] = refl
 one_more_constraint constraints c earlier (row ∷ rows) =
     ap (λ o. row_or (length earlier + 1) o (rows_fault (constraints ++ c ∷ []) (earlier ++ row ∷ []) rows)) (find_more (λ d. d.breaks earlier row) constraints c)
-    ∙ by (find (λ d. d.breaks earlier row) constraints) (c.breaks earlier row) (break_behind c.breaks earlier (row ∷ rows)) (one_more_constraint constraints c (earlier ++ row ∷ []) rows)
+    ∙ by (find (λ d. d.breaks earlier row) constraints) (c.breaks earlier row) (break_behind c.breaks earlier (row ∷ rows))
+    (one_more_constraint constraints c (earlier ++ row ∷ []) rows)
   where
     later : Option TableFault
     later = rows_fault constraints (earlier ++ row ∷ []) rows
@@ -168,4 +176,5 @@ repeat_fault columns rows = option_map (λ n. fault_of n (record { code = Repeat
 
 abbrev pub dangle_fault : List ℕ → List ℕ → TableRows → TableRows → Option TableFault
 dangle_fault columns targets target rows =
-    option_map (λ n. fault_of n (record { code = BrokenReference; columns = columns; breaks = dangles columns targets target })) (first_break (dangles columns targets target) [] rows)
+    option_map (λ n. fault_of n (record { code = BrokenReference; columns = columns; breaks = dangles columns targets target }))
+    (first_break (dangles columns targets target) [] rows)

@@ -1,5 +1,5 @@
 -- Texts and dates in fields.
-use Rattle.std.proofs.Common.{◌≡◌, ◌≤◌, ℕ, ℤ, Bool, true, false, List, length, Some, None, refl, ap, ◌∙◌, subst, nat_le, IsUtf8, chars}
+use Rattle.std.proofs.Common.{◌≡◌, ◌≤◌, ℕ, ℤ, Bool, true, false, List, length, Some, None, refl, ap, subst, IsUtf8, chars}
 use Rattle.std.specs.Prelude.{option_and_then, if◌then◌else◌}
 use Rattle.std.specs.Str.{is_utf8}
 use Rattle.std.proofs.lemmas.Str.{length-le-encodes, encodes-chars, IsUtf8-from_is_utf8, is_utf8-from_IsUtf8}

@@ -1,9 +1,9 @@
 -- No row breaks a constraint exactly where the keys and the references hold.
-use Rattle.std.proofs.Common.{◌≡◌, ℕ, zero, suc, ◌+◌, ◌<◌, ◌⊎◌, inl, inr, Bool, true, false, cond, List, [], ◌∷◌, ◌++◌, map, filter, length, get_or, Option, Some, None, refl, sym, ap, subst, ◌∙◌, arith, true≢false}
+use Rattle.std.proofs.Common.{◌≡◌, ℕ, zero, suc, ◌+◌, ◌<◌, ◌⊎◌, inl, inr, Bool, true, false, cond, List, [], ◌∷◌, ◌++◌, map, filter, length, get_or, Option, Some, None, refl}
+use Rattle.std.proofs.Common.{sym, ap, subst, ◌∙◌, arith, true≢false}
 use Rattle.std.specs.Prelude.{find, not, ◌&&◌, ◌||◌}
-use Rattle.std.specs.List.{list_any}
 use Rattle.std.proofs.lemmas.List.{map-append}
-use Rattle.multisets.specs.Bags.{IsIn, IsWithoutRepeats}
+use Rattle.multisets.specs.Bags.{IsIn}
 use Rattle.multisets.proofs.Members.{in_append, in_parts}
 use Rattle.pgq_base.proofs.ValueOrder.{same_values_decides}
 use Rattle.pgq_base.specs.declared.value.Value.{Value}
@@ -14,7 +14,8 @@ use Rattle.graph_ast.specs.declared.catalog.Key.{Key}
 use Rattle.graph_ast.specs.declared.catalog.Reference.{Reference}
 use Rattle.graph_ast.specs.Fits.{has_null, IsMet, IsUnique}
 use Rattle.csv_tables.specs.declared.faults.TableFault.{TableFault}
-use Rattle.csv_tables.specs.Constraints.{Constraint, constraints_of, dangles, has_values, key_constraint, reference_constraint, repeats, row_or, rows_fault, table_or, tables_refusal}
+use Rattle.csv_tables.specs.Constraints.{Constraint, constraints_of, dangles, has_values, key_constraint, reference_constraint, repeats, row_or, rows_fault, table_or}
+use Rattle.csv_tables.specs.Constraints.{tables_refusal}
 use Rattle.csv_tables.specs.Steps.{first_break}
 
 in_map : {A B : Type 0} (f : A → B) (x : A) (xs : List A) → IsIn x xs → IsIn (f x) (map f xs)
@@ -90,7 +91,8 @@ rows_have_values columns [] values h = absurd h
 rows_have_values columns (row ∷ rows) values (inl e) =
     let same : same_values values (values_at columns row) ≡ true = (same_values_decides values (values_at columns row)).1 (sym e) in
     rw same refl
-rows_have_values columns (row ∷ rows) values (inr h) = or_true (same_values values (values_at columns row)) (has_values columns rows values) (rows_have_values columns rows values h)
+rows_have_values columns (row ∷ rows) values (inr h) = or_true (same_values values (values_at columns row)) (has_values columns rows values)
+    (rows_have_values columns rows values h)
 
 -- ---- keys
 
@@ -103,13 +105,16 @@ record Apart (columns : List ℕ) (earlier rows : TableRows) : Type 0 where
   alone : IsUnique columns rows
   fresh : (values : List Value) → IsIn values (whole columns rows) → IsIn values (map (values_at columns) earlier) → ⊥
 
-in_longer : (columns : List ℕ) (earlier : TableRows) (row : RowValues) (values : List Value) → IsIn values (map (values_at columns) earlier) ⊎ IsIn values (values_at columns row ∷ [])
+in_longer : (columns : List ℕ) (earlier : TableRows) (row : RowValues) (values : List Value)
+    → IsIn values (map (values_at columns) earlier) ⊎ IsIn values (values_at columns row ∷ [])
     → IsIn values (map (values_at columns) (earlier ++ row ∷ []))
-in_longer columns earlier row values h = subst (IsIn values) (sym (map-append (values_at columns) earlier (row ∷ []))) (in_append values (map (values_at columns) earlier) (values_at columns row ∷ []) h)
+in_longer columns earlier row values h = subst (IsIn values) (sym (map-append (values_at columns) earlier (row ∷ [])))
+    (in_append values (map (values_at columns) earlier) (values_at columns row ∷ []) h)
 
 of_longer : (columns : List ℕ) (earlier : TableRows) (row : RowValues) (values : List Value) → IsIn values (map (values_at columns) (earlier ++ row ∷ []))
     → IsIn values (map (values_at columns) earlier) ⊎ IsIn values (values_at columns row ∷ [])
-of_longer columns earlier row values h = in_parts values (map (values_at columns) earlier) (values_at columns row ∷ []) (subst (IsIn values) (map-append (values_at columns) earlier (row ∷ [])) h)
+of_longer columns earlier row values h = in_parts values (map (values_at columns) earlier) (values_at columns row ∷ [])
+    (subst (IsIn values) (map-append (values_at columns) earlier (row ∷ [])) h)
 
 apart_from : (columns : List ℕ) (earlier rows : TableRows) → first_break (repeats columns) earlier rows ≡ None → Apart columns earlier rows
 apart_from columns earlier [] e = record { alone = tt; fresh = λ values h k. h }
@@ -126,8 +131,9 @@ apart_from columns earlier (row ∷ rows) e =
         let new : has_values columns earlier (values_at columns row) ≡ false = rw null at quiet in record {
           alone = rw null (λ h. more.fresh (values_at columns row) h (in_longer columns earlier row (values_at columns row) (inr (inl refl))), more.alone);
           fresh = λ values h k. elim (rw null at h) [
-            inl same ↦ true≢false (sym (rows_have_values columns earlier (values_at columns row) (subst (λ v. IsIn v (map (values_at columns) earlier)) (sym same) k)) ∙ new)
-          | inr later ↦ more.fresh values later (in_longer columns earlier row values (inl k)) ];
+            | inl same ↦ true≢false (sym (rows_have_values columns earlier (values_at columns row) (subst (λ v. IsIn v (map (values_at columns) earlier)) (sym same) k)) ∙ new)
+            | inr later ↦ more.fresh values later (in_longer columns earlier row values (inl k))
+          ];
         }
 
 apart_to : (columns : List ℕ) (earlier rows : TableRows) → Apart columns earlier rows → first_break (repeats columns) earlier rows ≡ None
@@ -164,8 +170,9 @@ apart_to columns earlier (row ∷ rows) a = by (has_null (values_at columns row)
         rw (null, new) (more (record {
           alone = pair.1;
           fresh = λ values h k. elim (of_longer columns earlier row values k) [
-            inl old ↦ a.fresh values (rw null (inr h)) old
-          | inr same ↦ elim same [ inl e ↦ pair.0 (subst (λ v. IsIn v (whole columns rows)) (sym e) h) | inr none ↦ none ] ];
+            | inl old ↦ a.fresh values (rw null (inr h)) old
+            | inr same ↦ elim same [ inl e ↦ pair.0 (subst (λ v. IsIn v (whole columns rows)) (sym e) h) | inr none ↦ none ]
+          ];
         }))
 
 -- ---- references
@@ -180,7 +187,8 @@ met_from instance r earlier (first ∷ rows) e row (inl same) = subst (IsMet ins
     not_false true e = refl
     not_false false e = absurd (true≢false e)
 
-    by : (n : Bool) → has_null (values_at r.columns first) ≡ n → (not n && not (has_values r.targets (rows_at instance r.table) (values_at r.columns first))) ≡ false → IsMet instance r first
+    by : (n : Bool) → has_null (values_at r.columns first) ≡ n → (not n && not (has_values r.targets (rows_at instance r.table) (values_at r.columns first))) ≡ false
+        → IsMet instance r first
     by true null quiet = inl null
     by false null quiet = inr (values_in_rows r.targets (rows_at instance r.table) (values_at r.columns first) (not_false _ quiet))
 
@@ -209,12 +217,16 @@ holds_from instance table rows none =
     let kept = kept_from (constraints_of instance table) [] rows none in
     let keys = map key_constraint table.keys in
     let references = map (reference_constraint instance) table.references in record {
-      keys = λ key h. (apart_from key.columns [] rows (kept (key_constraint key) (in_append (key_constraint key) keys references (inl (in_map key_constraint key table.keys h))))).alone;
-      references = λ r h. met_from instance r [] rows (kept (reference_constraint instance r) (in_append (reference_constraint instance r) keys references (inr (in_map (reference_constraint instance) r table.references h))));
+      keys = λ key h. (apart_from key.columns [] rows
+          (kept (key_constraint key) (in_append (key_constraint key) keys references (inl (in_map key_constraint key table.keys h))))).alone;
+      references = λ r h. met_from instance r [] rows
+          (kept (reference_constraint instance r) (in_append (reference_constraint instance r) keys references
+          (inr (in_map (reference_constraint instance) r table.references h))));
     }
 
 pub holds_to : (instance : InstanceRows) (table : Table) (rows : TableRows) → HoldIn instance table rows → rows_fault (constraints_of instance table) [] rows ≡ None
-holds_to instance table rows holds = kept_to (constraints_of instance table) [] rows (λ c h. by c (in_parts c (map key_constraint table.keys) (map (reference_constraint instance) table.references) h))
+holds_to instance table rows holds = kept_to (constraints_of instance table) [] rows
+    (λ c h. by c (in_parts c (map key_constraint table.keys) (map (reference_constraint instance) table.references) h))
   where
     Quiet : Constraint → Type 0
     Quiet c = first_break c.breaks [] rows ≡ None
@@ -248,7 +260,8 @@ tables_from instance place (first ∷ rest) e zero d h =
     subst (λ n. rows_fault (constraints_of instance first) [] (rows_at instance n) ≡ None) here (faultless first _ _ e).0
 tables_from instance place (first ∷ rest) e (suc k) d h =
     let there : suc place + k ≡ place + suc k = omega arith in
-    subst (λ n. rows_fault (constraints_of instance (get_or rest k d)) [] (rows_at instance n) ≡ None) there (tables_from instance (suc place) rest (faultless first _ _ e).1 k d (omega arith))
+    subst (λ n. rows_fault (constraints_of instance (get_or rest k d)) [] (rows_at instance n) ≡ None) there
+    (tables_from instance (suc place) rest (faultless first _ _ e).1 k d (omega arith))
 
 pub tables_to : (instance : InstanceRows) (place : ℕ) (tables : List Table) → TablesKept instance place tables → tables_refusal instance place tables ≡ None
 tables_to instance place [] kept = refl

@@ -42,7 +42,8 @@ module _ (columns : List Column) (places : List ℕ) (all : Result TableRows Tab
       → all ≡ ahead (map values_of (rows ++ row ∷ [])) (collected (record_rows columns places (n + 1) more))
   row_read n rows row fields rest more h e due =
       let there = h ∙ ap (λ left. ahead (map values_of rows) (collected (record_rows columns places n left))) e in
-      rw (map-append values_of rows (row ∷ []), add-one) (next_value all (map values_of rows) (record_row columns places n fields) (values_of row) (record_rows columns places (suc n) more) due there)
+      rw (map-append values_of rows (row ∷ []), add-one)
+      (next_value all (map values_of rows) (record_row columns places n fields) (values_of row) (record_rows columns places (suc n) more) due there)
 
   -- or it has a fault
   pub bad_row : (n : ℕ) (rows : List Row) (fault : TableFault) (fields : List (List ℕ)) (rest more : List (List (List ℕ)))
@@ -58,7 +59,8 @@ pub handed_on : {B D : Type 0} (due : Result B TableFault) (later : Result D Tab
 handed_on due later (stop.Refused fault) h more = more fault h
 handed_on due later stop.NoMemory h more = tt
 
-pub on_error : {C D : Type 0} (view : C → D) (later : Result D TableFault) (e : Stop TableFault) (r : Result C (Stop TableFault)) → IsErrAnd r (λ x. x ≡ e) → Gives {A = D} later (Err e) → Gives later (seen view r)
+pub on_error : {C D : Type 0} (view : C → D) (later : Result D TableFault) (e : Stop TableFault) (r : Result C (Stop TableFault)) → IsErrAnd r (λ x. x ≡ e)
+    → Gives {A = D} later (Err e) → Gives later (seen view r)
 on_error view later e (Ok x) h g = absurd h
 on_error {C} {D} view later e (Err x) h g = let P : Stop TableFault → Type 0 = λ u. Gives {A = D} later (Err u) in subst P (sym h) g
 
@@ -66,7 +68,8 @@ on_error {C} {D} view later e (Err x) h g = let P : Stop TableFault → Type 0 =
 pub header_length : (columns : List Column) (header : List (List ℕ)) (places : List ℕ) → header_places columns header ≡ Ok places → length places ≡ length columns
 header_length columns header places = by (length header == length columns)
   where
-    by : (b : Bool) → (if b then collected (map (λ column. ok_or (position (names columns column) header) bad_header) columns) else Err bad_header) ≡ Ok places → length places ≡ length columns
+    by : (b : Bool) → (if b then collected (map (λ column. ok_or (position (names columns column) header) bad_header) columns) else Err bad_header) ≡ Ok places
+        → length places ≡ length columns
     by true e = let placed : Column → Result ℕ TableFault = λ column. ok_or (position (names columns column) header) bad_header in
         length_collected (map placed columns) places e ∙ length-map columns placed
     by false e = cc

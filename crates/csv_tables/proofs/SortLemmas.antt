@@ -1,5 +1,6 @@
 -- The rows of a table's text are in the one ascending order that there is.
-use Rattle.std.proofs.Common.{◌≡◌, zero, suc, ◌+◌, ◌<◌, Bool, true, false, cond, List, [], ◌∷◌, map, length, get_or, refl, ap, ◌∙◌, arith, add-one, Ordering, Less, Equal, Greater, is_lt, is_gt, IsPermutation, IsSorted}
+use Rattle.std.proofs.Common.{◌≡◌, zero, suc, ◌+◌, ◌<◌, Bool, true, false, cond, List, [], ◌∷◌, map, length, get_or, refl, ap, ◌∙◌, arith, add-one, Ordering, Less, Equal}
+use Rattle.std.proofs.Common.{Greater, is_lt, is_gt, IsPermutation, IsSorted}
 use Rattle.std.specs.Prelude.{IsSortedBy}
 use Rattle.std.specs.Ordering.{ordering_reverse}
 use Rattle.std.proofs.lemmas.List.{get_or-map, length-map}
@@ -15,7 +16,8 @@ pub exact_row : (a b : RowValues) → row_order a b ≡ Equal → a ≡ b
 exact_row = exact_list value_order exact_value value_itself
 
 -- a list in order behind a row that is not above its first
-sorted_cons : (row : RowValues) (rows : TableRows) → ((d : RowValues) → 0 < length rows → is_lt (row_order (get_or rows 0 d) row) ≡ false) → IsSorted row_order rows → IsSorted row_order (row ∷ rows)
+sorted_cons : (row : RowValues) (rows : TableRows) → ((d : RowValues) → 0 < length rows → is_lt (row_order (get_or rows 0 d) row) ≡ false) → IsSorted row_order rows
+    → IsSorted row_order (row ∷ rows)
 sorted_cons row rows first sorted zero d low high = first d (omega arith)
 sorted_cons row rows first sorted (suc k) d low high = rw add-one (rw add-one at (sorted k d (omega arith) (omega arith)))
 
@@ -26,7 +28,8 @@ sorted_first : (row : RowValues) (rows : TableRows) → IsSorted row_order (row 
 sorted_first row rows sorted d h = sorted 0 d (omega arith) (omega arith)
 
 -- what holds of the row and of the first row holds of the first row after the insertion
-first_inserted : (P : RowValues → Type 0) (row : RowValues) (rows : TableRows) → P row → ((d : RowValues) → 0 < length rows → P (get_or rows 0 d)) → (d : RowValues) → P (get_or (inserted row rows) 0 d)
+first_inserted : (P : RowValues → Type 0) (row : RowValues) (rows : TableRows) → P row → ((d : RowValues) → 0 < length rows → P (get_or rows 0 d)) → (d : RowValues)
+    → P (get_or (inserted row rows) 0 d)
 first_inserted P row [] here there d = here
 first_inserted P row (first ∷ rest) here there d = by (is_gt (row_order row first))
   where

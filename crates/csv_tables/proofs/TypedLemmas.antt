@@ -1,5 +1,6 @@
 -- The rows that are read are rows of their columns.
-use Rattle.std.proofs.Common.{◌≡◌, ℕ, suc, inl, inr, Bool, true, false, cond, List, [], ◌∷◌, length, get_or, Option, Some, None, Result, Ok, Err, refl, sym, ap, subst, ◌∙◌, arith, bytes_eq}
+use Rattle.std.proofs.Common.{◌≡◌, ℕ, suc, inl, inr, Bool, true, false, cond, List, [], ◌∷◌, length, get_or, Option, Some, None, Result, Ok, Err, refl, sym, ap, subst, ◌∙◌}
+use Rattle.std.proofs.Common.{arith, bytes_eq}
 use Rattle.std.specs.Prelude.{◌&&◌, ◌==◌, option_and_then}
 use Rattle.multisets.specs.Bags.{IsIn}
 use Rattle.pgq_base.specs.declared.code.Code.TheVariants.{RecordWidth}
@@ -53,7 +54,8 @@ taken_typed column row n field v = by (field_value column.kind field) refl
         go true t e = cc (rw t at e)
         go false t e =
             let same : w ≡ v = cc (rw t at e) in
-            subst (IsValueOf column) same (record { within = (within_tells column.kind w).0 (field_within column.kind field w f); not_null = λ h. kept_not_null column.not_null (is_null w) t h })
+            let within = (within_tells column.kind w).0 (field_within column.kind field w f) in
+            subst (IsValueOf column) same (record { within = within; not_null = λ h. kept_not_null column.not_null (is_null w) t h })
 
 -- the first of the results is a value, and so are the others
 abbrev Parts : {A E : Type 0} → Result A E → List (Result A E) → List A → Type 0
@@ -76,7 +78,8 @@ cells_typed row n [] places fields values size e = let none : values ≡ [] = cc
 cells_typed row n (column ∷ columns) [] fields values size e = absurd (omega arith)
 cells_typed row n (column ∷ columns) (place ∷ places) fields values size e =
     let (v, more, here, there, same) = first_value _ _ values e in
-    let typed : IsRowOf (column ∷ columns) (v ∷ more) = (taken_typed column row n (get_or fields place []) v here, cells_typed row (suc n) columns places fields more (omega arith) there) in
+    let typed : IsRowOf (column ∷ columns) (v ∷ more) =
+    (taken_typed column row n (get_or fields place []) v here, cells_typed row (suc n) columns places fields more (omega arith) there) in
     subst (IsRowOf (column ∷ columns)) (sym same) typed
 
 row_typed : (row : ℕ) (columns : List Column) (places : List ℕ) (fields : List Field) (values : RowValues) → length places ≡ length columns
@@ -106,7 +109,8 @@ rows_typed n columns places (fields ∷ body) rows size e =
     subst (Typed columns) (sym same)
     (one_more_row columns row more (row_typed n columns places fields row size here) (rows_typed (suc n) columns places body more size there))
 
-under_typed : (columns : List Column) (header : List Field) (body : List (List Field)) (rows : TableRows) → rows_under columns (header_places columns header) body ≡ Ok rows → Typed columns rows
+under_typed : (columns : List Column) (header : List Field) (body : List (List Field)) (rows : TableRows) → rows_under columns (header_places columns header) body ≡ Ok rows
+    → Typed columns rows
 under_typed columns header body rows = by (header_places columns header) refl
   where
     by : (r : Result (List ℕ) TableFault) → header_places columns header ≡ r → rows_under columns r body ≡ Ok rows → Typed columns rows

@@ -1,5 +1,5 @@
 -- The test of a value at a column's type.
-use Rattle.std.proofs.Common.{◌≡◌, Decides, rules}
+use Rattle.std.proofs.Common.{Decides, rules}
 use Rattle.pgq_base.specs.declared.value.Value.{Value}
 use Rattle.graph_ast.specs.declared.catalog.ColumnType.{ColumnType}
 use Rattle.graph_ast.specs.Fits.{IsWithin}

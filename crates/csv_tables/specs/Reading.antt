@@ -1,5 +1,6 @@
 -- The rows of a table's text, or its first fault.
-use Rattle.std.specs.Prelude.{ℕ, suc, ◌==◌, ◌&&◌, ◌||◌, not, if◌then◌else◌, Bool, List, [], ◌∷◌, map, length, position, Option, Some, None, ok_or, slice_index_or, Result, Ok, Err, bytes_eq}
+use Rattle.std.specs.Prelude.{ℕ, suc, ◌==◌, ◌&&◌, ◌||◌, not, if◌then◌else◌, Bool, List, [], ◌∷◌, map, length, position, Option, Some, None, ok_or, slice_index_or, Result, Ok}
+use Rattle.std.specs.Prelude.{Err, bytes_eq}
 use Rattle.std.specs.List.{list_any}
 use Rattle.std.specs.Str.{str_to_ascii_uppercase}
 use Rattle.pgq_base.specs.declared.code.Code.TheVariants.{BadHeader, RecordWidth, BadField, NullField}

@@ -53,11 +53,7 @@ fn read_date(field: &[u8]) -> Option<Value>
 }
 
 // What a field is read as in a column of this type, whatever its size.
-fn read_written(
-    alloc: Global,
-    kind: ColumnType,
-    field: &[u8],
-) -> Result<Option<Value>, NoMemory>
+fn read_written(alloc: Global, kind: ColumnType, field: &[u8]) -> Result<Option<Value>, NoMemory>
     ensures { IfOk result (λ v. v ≡ written kind field.now) }
 {
     match kind {

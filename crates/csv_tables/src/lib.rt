@@ -13,9 +13,7 @@ mod records;
 mod writing;
 
 pub use checking::check_instance;
-pub use laws::{
-    checked_instances_fit, read_rows_are_typed, types_tell, valid_catalogs_number,
-};
+pub use laws::{checked_instances_fit, read_rows_are_typed, types_tell, valid_catalogs_number};
 pub use reading::read_table;
 pub use writing::{one_table_text, write_rows};
 

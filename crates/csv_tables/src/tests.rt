@@ -4,9 +4,7 @@ ghost use Rattle.csv_tables.specs.Constraints.{HasNumbers, IsNumbered};
 use crate::{check_instance, read_table, write_rows};
 use civil_dates::date_of_text;
 use graph_ast::{Catalog, Column, ColumnType, Digits, Key, Reference, Table};
-use pgq_base::{
-    Decimal, Detail, Instance, List, Name, NoMemory, Row, Rows, Stop, Text, Value,
-};
+use pgq_base::{Decimal, Detail, Instance, List, Name, NoMemory, Row, Rows, Stop, Text, Value};
 use std::alloc::Global;
 use std::test::Fail;
 

@@ -1,4 +1,4 @@
-use Rattle.std.proofs.Common.{◌≡◌, ◌+◌, [], ℕ, None, get_or, sym, subst, zero-add}
+use Rattle.std.proofs.Common.{◌≡◌, ◌+◌, [], None, get_or, sym, subst, zero-add}
 use Rattle.pgq_base.specs.Instances.{rows_at}
 use Rattle.graph_ast.specs.Lookups.{table_at}
 use Rattle.graph_ast.specs.Fits.{AreRowsOf}
@@ -14,7 +14,7 @@ returns c catalog instance typed = (
         let table = table_at catalog place in
         let here : 0 + place ≡ place = zero-add place in
         let holds = holds_from instance table (rows_at instance place)
-            (subst (λ n. rows_fault (constraints_of instance table) [] (rows_at instance n) ≡ None) here (tables_from instance 0 catalog.tables none place _ there)) in
+        (subst (λ n. rows_fault (constraints_of instance table) [] (rows_at instance n) ≡ None) here (tables_from instance 0 catalog.tables none place _ there)) in
         record { typed = typed.rows place there; keys = holds.keys; references = holds.references };
   },
   λ fits. tables_to instance 0 catalog.tables (λ place d there.

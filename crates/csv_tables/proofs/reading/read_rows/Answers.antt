@@ -1,5 +1,5 @@
 use Rattle.csv.specs.Records.{fields_of}
-use Rattle.csv_tables.specs.Outcomes.{collected, rows_of, values_of}
+use Rattle.csv_tables.specs.Outcomes.{collected, rows_of}
 use Rattle.csv_tables.specs.Reading.{record_row, record_rows}
 use Rattle.csv_tables.proofs.ReadingLemmas.{all_read, row_read, bad_row, handed_on, on_error}
 use Rattle.csv_tables.proofs.reading.read_rows.Goals as goal
@@ -16,7 +16,8 @@ returns-in_err-read_row g c left has =
     let places = c.args.places.now in
     let (rest, there, so_far) = c.loop-row.invariant left has in
     let (more, is, after) = rw c.if-not-branch.false at (c.in_ok-take_record.ensures rest there) in
-    let due = handed_on (record_row columns places c.loop-row.row (fields_of c.take_record.new.fields)) (collected (record_rows columns places 1 left)) c.in_err-read_row.field-0.0
+    let due = handed_on (record_row columns places c.loop-row.row (fields_of c.take_record.new.fields))
+    (collected (record_rows columns places 1 left)) c.in_err-read_row.field-0.0
     c.in_err-read_row.ensures (λ fault. bad_row columns places _ c.loop-row.row c.loop-row.rows fault _ rest more so_far is) in
     on_error rows_of _ c.in_err-read_row.field-0.0 c.from_residual-in_err-read_row.result c.from_residual-in_err-read_row.ensures.1 due
 
