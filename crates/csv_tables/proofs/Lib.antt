@@ -1,0 +1,14 @@
+pub mod NumberLemmas
+pub mod FieldLemmas
+pub mod RecordLemmas
+pub mod CollectLemmas
+pub mod HeaderLemmas
+pub mod ReadingLemmas
+pub mod SortLemmas
+pub mod WriterLemmas
+pub mod KeyLemmas
+pub mod CheckingLemmas
+pub mod WithinLemmas
+pub mod TypedLemmas
+pub mod FitLemmas
+pub mod CatalogLemmas

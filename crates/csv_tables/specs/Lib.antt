@@ -1,0 +1,10 @@
+pub mod Constraints
+pub mod Fields
+pub mod KeyOrder
+pub mod Outcomes
+pub mod Reading
+pub mod Records
+pub mod Steps
+pub mod Typed
+pub mod Within
+pub mod Writing
