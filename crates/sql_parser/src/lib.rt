@@ -1,0 +1,5 @@
+//! Reads SQL texts: from tokens to the one tree that they spell.
+#![tactic(auto)]
+
+mod conditions;
+mod operands;
