@@ -2,4 +2,14 @@
 #![tactic(auto)]
 
 mod conditions;
+mod items;
+mod lists;
 mod operands;
+mod parsing;
+mod selects;
+#[cfg(test)]
+mod shown;
+#[cfg(test)]
+mod tests;
+
+pub use parsing::{one_outcome, one_tree, parse_sql};
