@@ -2,3 +2,6 @@ pub mod Nests
 pub mod GatheredLists
 pub mod Listing
 pub mod Whole
+pub mod Placed
+pub mod ConditionSpans
+pub mod SelectSpans

@@ -28,7 +28,8 @@ module _ {V C W : Type 0} (A : Parser Token (V × List V)) (R : Parser Token C) 
   abbrev behind : Answer Token (V × List V) → Answer Token W
   behind z = bind (bind z (λ d r. mapped_p (λ o. let p : (V × List V) × C = (d, o) in p) R r)) (λ d r. got (cons_first d) r)
 
-  put : (d : V × List V) (z : Answer Token C) → bind (bind z (λ o r. got (let p : (V × List V) × C = (d, o) in p) r)) (λ d r. got (cons_first d) r) ≡ bind z (λ o r. got (made (d.0 ∷ d.1)) r)
+  put : (d : V × List V) (z : Answer Token C) → bind (bind z (λ o r. got (let p : (V × List V) × C = (d, o) in p) r)) (λ d r. got (cons_first d) r) ≡ bind z
+      (λ o r. got (made (d.0 ∷ d.1)) r)
   put d (got o r) = refl
   put d (fault c r) = refl
 

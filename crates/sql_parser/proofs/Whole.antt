@@ -38,7 +38,8 @@ module _ (ts us : List Token) (same : us ≡ ts) where
   pub left_short : (c : Cause) (left : List Token) → finish (reads (at_depth 128) sql us) ≡ fault c left → length left ≤ length ts
   left_short c left h = whole.left_short class class_count below sample sampled inside decided 1 has opens closes counted sql sure sums 128 ts c left (moved (fault c left) h)
 
-  pub first : (c : Cause) (left : List Token) (at : ℕ) → finish (reads (at_depth 128) sql us) ≡ fault c left → at + length left ≡ length ts → FirstFault (on class opens) (on class closes) sql_text 128 ts c (drop at ts)
+  pub first : (c : Cause) (left : List Token) (at : ℕ) → finish (reads (at_depth 128) sql us) ≡ fault c left → at + length left ≡ length ts → FirstFault (on class opens)
+      (on class closes) sql_text 128 ts c (drop at ts)
   first c left at h l = whole.fault_at class class_count below sample sampled inside decided 1 has opens closes counted sql sure sums 128 ts c left at (moved (fault c left) h) l
 
 pub span_in_text : (end n : ℕ) (ts : List Token) → TokensLieIn end ts → LiesIn end (span_at end (slice_get ts n))
@@ -65,7 +66,8 @@ same_refusal a b r s c d =
 first_same : (ts : List Token) (end : ℕ) (a b : Refusal) → IsFirstFault ts end a → IsFirstFault ts end b → a ≡ b
 first_same ts end a b f g =
     let q = one_fault (on class opens) (on class closes) sql_text 128 ts f.cause g.cause (drop f.place ts) (drop g.place ts) f.first g.first in
-    let place : span_at end (slice_get ts f.place) ≡ span_at end (slice_get ts g.place) = at_place end f.place ts ∙ ap (λ l. span_at end (slice_get l 0)) q.1 ∙ sym (at_place end g.place ts) in
+    let place : span_at end (slice_get ts f.place) ≡ span_at end (slice_get ts g.place) = at_place end f.place ts ∙ ap (λ l. span_at end (slice_get l 0)) q.1 ∙ sym
+    (at_place end g.place ts) in
     same_refusal a b (f.role ∙ sym g.role) (f.span ∙ place ∙ sym g.span) (f.code ∙ ap code_for q.0 ∙ sym g.code) (f.detail ∙ sym g.detail)
 
 pub one_outcome : (ts : List Token) (end : ℕ) (a b : Result SqlText Refusal) → IsOutcome ts end a → IsOutcome ts end b → a ≡ b

@@ -4,3 +4,4 @@ pub mod Conditions
 pub mod Lists
 pub mod Selects
 pub mod Outcomes
+pub mod Spans

@@ -3,11 +3,13 @@ ghost use Rattle.sql_lexer.specs.declared.token.Token.{Token as Lexeme};
 ghost use Rattle.pgq_base.specs.declared.refusal.Refusal.{Refusal as AnyRefusal};
 ghost use Rattle.pgq_base.specs.Answers.{Gives};
 ghost use Rattle.sql_lexer.specs.Spans.{TokensLieIn, RefusalLiesIn};
+ghost use Rattle.sql_lexer.specs.Texts.{AreInOrder};
 ghost use Rattle.sql_algebra.specs.declared.text.SqlText.{SqlText as Text};
 ghost use Rattle.sql_algebra.specs.Grammar.{sql};
 ghost use Rattle.token_grammar.specs.Parser.{finish};
 ghost use Rattle.token_grammar.specs.Code.{Parses};
 ghost use Rattle.sql_parser.specs.Reading.{reads, at_depth};
+ghost use Rattle.sql_parser.specs.Spans.{SpansLieIn};
 ghost use Rattle.sql_parser.specs.Outcomes.{SpellsSql, IsShallow, IsFirstFault, IfRefused, IsOutcome, span_at, code_for};
 
 use crate::selects::sql;
@@ -50,7 +52,8 @@ fn span_at(tokens: &[Token], place: usize, end: u32) -> Span
 /// The tree of an SQL text that has these tokens and is `end` bytes long. `end` is not less than the end
 /// of the last token. Whether its names, classes and tables stand in a catalog is not looked at.
 ///
-/// The tree's spans are those of the tokens. Where the tokens are no SQL text, or one with more than 128
+/// The tree's spans are those of the tokens: where these stand in order and end by the text's end, as
+/// those that `lex` answers do, the tree's lie in the text. Where the tokens are no SQL text, or one with more than 128
 /// open parentheses, the refusal is 201 or 801, of role `Sql`, at the first fault: 201 stands at the
 /// first token such that no SQL text begins with the tokens up to it, and at the text's end where all of
 /// them begin one; 801 stands at a parenthesis that may follow there and would be the 129th open one.
@@ -62,6 +65,7 @@ pub fn parse_sql(alloc: Global, tokens: &[Token], end: u32) -> Result<SqlText, S
     ensures due { (due : Result Text AnyRefusal) → IsOutcome tokens.now end due → Gives due result }
     ensures refused { IfErr result (λ stop. IfRefused stop (IsFirstFault tokens.now end)) }
     ensures in_text { TokensLieIn end tokens.now → IfErr result (RefusalLiesIn end) }
+    ensures spans { AreInOrder 0 end tokens.now → IfOk result (SpansLieIn end) }
 {
     let mut left = Cursor::new(tokens);
     match whole(alloc, &mut left) {

@@ -32,19 +32,22 @@ exists-returns-in_err-expect-2 t c =
 pub conjuncts-loop-turn-init : goal.conjuncts-loop-turn-init
 conjuncts-loop-turn-init t c =
     let P = reads (at_depth c.args.depth) conjunct in
-    list_start P (is_mark m.And) (after_p (is_mark m.And) span_of P) c.args.tokens.now c.conjunct.new.tokens c.in_ok-first.first (c.count-turn-end.result - 0) c.push.new.self c.in_ok-first.ensures (omega (arith, c.count-turn-end.ensures))
+    list_start P (is_mark m.And) (after_p (is_mark m.And) span_of P) c.args.tokens.now c.conjunct.new.tokens c.in_ok-first.first (c.count-turn-end.result - 0) c.push.new.self
+    c.in_ok-first.ensures (omega (arith, c.count-turn-end.ensures))
     (c.in_ok-push.ensures.ok ∙ ap (λ l. l ++ c.in_ok-first.first ∷ []) c.new-all.ensures)
 
 pub conjuncts-returns-in_err-item : goal.conjuncts-returns-in_err-item
 conjuncts-returns-in_err-item t c =
     let n = c.count-turn-end.result - c.loop-turn.turn in
-    let e = more-step (is_mark m.And) span_of (reads (at_depth c.args.depth) conjunct) n (c.count-turn-end.result - (c.loop-turn.turn + 1)) c.loop-turn.all c.loop-turn.tokens c.skip.new.self (omega arith) (sym c.next_is.ensures ∙ c.if-not-next_is.false) c.skip.ensures in
+    let e = more-step (is_mark m.And) span_of (reads (at_depth c.args.depth) conjunct) n (c.count-turn-end.result - (c.loop-turn.turn + 1)) c.loop-turn.all c.loop-turn.tokens
+    c.skip.new.self (omega arith) (sym c.next_is.ensures ∙ c.if-not-next_is.false) c.skip.ensures in
     let f = sym e ∙ c.loop-turn.invariant in
     first_of (search rules, grind (arith, common_steps))
 
 pub conjuncts-loop-turn-preserved : goal.conjuncts-loop-turn-preserved
 conjuncts-loop-turn-preserved t c =
     let n = c.count-turn-end.result - c.loop-turn.turn in
-    let e = more-step (is_mark m.And) span_of (reads (at_depth c.args.depth) conjunct) n (c.count-turn-end.result - (c.loop-turn.turn + 1)) c.loop-turn.all c.loop-turn.tokens c.skip.new.self (omega arith) (sym c.next_is.ensures ∙ c.if-not-next_is.false) c.skip.ensures in
+    let e = more-step (is_mark m.And) span_of (reads (at_depth c.args.depth) conjunct) n (c.count-turn-end.result - (c.loop-turn.turn + 1)) c.loop-turn.all c.loop-turn.tokens
+    c.skip.new.self (omega arith) (sym c.next_is.ensures ∙ c.if-not-next_is.false) c.skip.ensures in
     let f = sym e ∙ c.loop-turn.invariant in
     first_of (search rules, grind (arith, common_steps))

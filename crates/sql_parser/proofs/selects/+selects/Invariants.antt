@@ -24,4 +24,5 @@ decreases-select l = 5 * l.depth + 4
 
 -- what is read so far, and what would be read from here, make the whole
 abbrev pub invariant-conjuncts-loop-turn : goal.invariant-conjuncts-loop-turn
-invariant-conjuncts-loop-turn l = gathered (is_mark m.And) (after_p (is_mark m.And) span_of (reads (at_depth l.depth) conjunct)) pushed (l.turn-end - l.turn) l.all l.tokens ≡ reads (at_depth l.depth) conjuncts l.fn.tokens
+invariant-conjuncts-loop-turn l = gathered (is_mark m.And) (after_p (is_mark m.And) span_of (reads (at_depth l.depth) conjunct)) pushed (l.turn-end - l.turn) l.all l.tokens ≡
+    reads (at_depth l.depth) conjuncts l.fn.tokens
