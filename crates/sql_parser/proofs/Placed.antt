@@ -1,5 +1,5 @@
 -- Spans between two places, and what is made of them: one lemma for each way to put rules together.
-use Rattle.std.proofs.Common.{ℕ, ◌≤◌, Bool, Option, Some, None, List, [], ◌∷◌, ◌++◌, map, flat_map, inl, inr, arith}
+use Rattle.std.proofs.Common.{ℕ, ◌≤◌, Bool, Option, Some, None, List, [], ◌∷◌, ◌++◌, flat_map, inl, inr, arith}
 use Rattle.std.specs.List.{AllByRecursion}
 use Rattle.pgq_base.specs.declared.refusal.Span.{Span}
 use Rattle.sql_lexer.specs.declared.token.Token.{Token}

@@ -1,5 +1,5 @@
 -- The spans of an SQL text's tree lie in the text.
-use Rattle.std.proofs.Common.{◌≡◌, refl, sym, ap, subst, ◌∙◌, ℕ, zero, suc, ◌≤◌, Bool, Option, Some, None, List, [], ◌∷◌, ◌++◌, map, flat_map, arith}
+use Rattle.std.proofs.Common.{◌≡◌, sym, ap, subst, ◌∙◌, ℕ, zero, suc, ◌≤◌, Option, Some, None, List, [], ◌∷◌, ◌++◌, map, flat_map, arith}
 use Rattle.std.specs.List.{AllByRecursion}
 use Rattle.pgq_base.specs.declared.refusal.Span.{Span}
 use Rattle.sql_lexer.specs.declared.token.Token.{Token}
@@ -7,7 +7,6 @@ use Rattle.sql_lexer.specs.Spans.{LiesIn}
 use Rattle.sql_lexer.specs.Texts.{AreInOrder}
 use Rattle.token_marks.specs.declared.mark.Mark.TheVariants as m
 use Rattle.expr_tree.specs.Leaves.{leaves_in}
-use Rattle.token_grammar.specs.Grammar.{Grammar}
 use Rattle.token_grammar.specs.Rules.{within, grammar}
 use Rattle.token_reading.specs.Tokens.{class}
 use Rattle.condition_grammar.specs.declared.spanned.Spanned.{Spanned}
@@ -21,12 +20,12 @@ use Rattle.sql_algebra.specs.declared.text.ConjunctText.TheVariants as t
 use Rattle.sql_algebra.specs.declared.text.ConjunctText.TheVariants.{Plain, NotExists}
 use Rattle.sql_algebra.specs.declared.text.SelectText.{SelectText, out-SelectText, fold-roll-SelectText}
 use Rattle.sql_algebra.specs.declared.text.SqlText.{SqlText}
-use Rattle.sql_algebra.specs.Grammar.{Nested, HeldInside, Production, inside, column, table, joined, next_chain, from_list, exists, after_not, conjunct, where_part, unless_none, null_as, select, sql, and_list, member}
-use Rattle.sql_parser.specs.Spans.{leaf_spans, condition_spans, column_spans, item_spans, on_spans, conjunct_step, select_step, all_spans, select_spans, conjunct_spans, text_spans, SpansLieIn}
-use Rattle.sql_parser.specs.Selects.{next_item, conjuncts}
+use Rattle.sql_algebra.specs.Grammar.{Nested, inside, column, table, joined, next_chain, from_list, exists, after_not, conjunct, where_part, unless_none, select, sql}
+use Rattle.sql_parser.specs.Spans.{leaf_spans, condition_spans, column_spans, item_spans, conjunct_step, select_step, all_spans, select_spans, conjunct_spans, text_spans, SpansLieIn}
+use Rattle.sql_parser.specs.Selects.{next_item}
 use Rattle.sql_parser.specs.Outcomes.{SpellsSql}
-use Rattle.sql_parser.proofs.Placed.{Parts, Lies, Lie, wider, wider_all, reach_lies, all_append, all_flat, all_to, Held, Tells, Then, Any, IfGiven, Each, Widens, wider_each, any_tells, mapped_tells, seq_tells, either_tells, opt_tells, many_tells}
-use Rattle.sql_parser.proofs.ConditionSpans.{LeafLies, Placed, wider_placed, not_placed, NameLies, InsideHas, Inner, the_lies, name_lies, nest_tells, test_placed, negation_placed, condition_placed, behind_word, list_tells, operands_placed, members_placed}
+use Rattle.sql_parser.proofs.Placed.{Parts, Lies, Lie, wider, wider_all, reach_lies, all_append, all_flat, all_to, Held, Tells, IfGiven, Each, Widens, wider_each, any_tells, mapped_tells, seq_tells, either_tells, opt_tells, many_tells}
+use Rattle.sql_parser.proofs.ConditionSpans.{LeafLies, Placed, wider_placed, not_placed, InsideHas, Inner, the_lies, name_lies, nest_tells, test_placed, negation_placed, condition_placed, behind_word, list_tells, operands_placed, members_placed}
 
 -- ---- the lists of spans
 

@@ -11,7 +11,7 @@ use Rattle.sql_lexer.specs.declared.token.Token.{Token}
 use Rattle.sql_lexer.specs.Spans.{LiesIn, TokensLieIn}
 use Rattle.sql_algebra.specs.declared.text.SqlText.{SqlText}
 use Rattle.token_grammar.specs.Rules.{on}
-use Rattle.token_grammar.specs.Parser.{Answer, inner, finish, parser}
+use Rattle.token_grammar.specs.Parser.{Answer, finish}
 use Rattle.token_grammar.specs.Parser.Answer.{got, fault}
 use Rattle.token_grammar.specs.Texts.{FirstFault}
 use Rattle.token_grammar.specs.declared.fault.Cause.{Cause}

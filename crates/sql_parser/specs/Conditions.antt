@@ -1,8 +1,7 @@
 -- The productions of conditions in this grammar, and what their loops gather.
-use Rattle.std.specs.Prelude.{ℕ, Bool, List, length}
+use Rattle.std.specs.Prelude.{Bool, List, length}
 use Rattle.sql_lexer.specs.declared.token.Token.{Token}
 use Rattle.token_marks.specs.declared.mark.Mark.{Mark}
-use Rattle.token_marks.specs.declared.mark.Mark.TheVariants as m
 use Rattle.token_grammar.specs.Parser.{Parser}
 use Rattle.token_grammar.specs.Code.{gathered, after_p}
 use Rattle.token_reading.specs.Tokens.{is_mark, span_of}
@@ -13,7 +12,6 @@ use Rattle.condition_nodes.specs.declared.gathered.Gathered.{Gathered}
 use Rattle.condition_nodes.specs.Gathered.{with_one}
 use Rattle.sql_algebra.specs.declared.text.ColumnRef.{ColumnRef}
 use Rattle.sql_algebra.specs.Grammar.{Nested, HeldNested, Production, own_operand, test}
-use Rattle.sql_parser.specs.Reading.{reads, at_depth}
 
 -- What stands at the leaves. The other names below stand for the productions of `condition_grammar` over it.
 abbrev pub Leaf : Type 0
