@@ -17,6 +17,9 @@ use Rattle.first_faults.specs.Places.{first_place}
 use Rattle.view_check.specs.declared.exposed.Exposed.{Exposed}
 use Rattle.view_check.specs.KeyLists.{key_names, key_lists}
 use Rattle.view_check.specs.TableRules as text
+use Rattle.view_check.specs.GraphRules as graph
+use Rattle.graph_ast.specs.declared.catalog.Table.{Table}
+use Rattle.graph_ast.specs.declared.catalog.Column.{Column}
 use Rattle.view_check.specs.Catalogs as text_places
 
 cons_is_append : {X : Type 0} (o : Option X) (xs : List X) → cons_option o xs ≡ option_to_list o ++ xs
@@ -111,3 +114,17 @@ among_keys names (r ∷ rules) = go r.kind (among_keys names rules)
 
 pub key_known : (names : List Named) (t : TableDef) → list_any (λ key. same_names names key) (key_lists t) ≡ text.is_key t names
 key_known names t = among_keys names (rules_of t)
+
+pub entry_column_known : (name : List ℕ) (t : Table) → is_some (first_place name (map (λ c. c.name) t.columns)) ≡ graph.has_column t name
+entry_column_known name t = any_place (λ (c : Column). c.name) name t.columns
+
+pub entry_column_at : (name : List ℕ) (t : Table) →
+    unwrap_or (first_place name (map (λ c. c.name) t.columns)) (length t.columns) ≡ position_or_len (λ c. bytes_eq c.name name) t.columns
+entry_column_at name t = first_position (λ (c : Column). c.name) name t.columns
+
+pub entry_at : (name : List ℕ) (tables : List Table) →
+    unwrap_or (first_place name (map (λ t. t.name) tables)) (length tables) ≡ position_or_len (λ t. bytes_eq t.name name) tables
+entry_at name tables = first_position (λ (t : Table). t.name) name tables
+
+pub entry_first : (name : List ℕ) (tables : List Table) → slice_get tables (graph.table_place tables name) ≡ graph.named_table tables name
+entry_first name tables = sym (find_at (λ t. bytes_eq t.name name) tables)
