@@ -93,6 +93,7 @@ again (Some g) f = go (is_before f g) refl
     same : (b : Bool) → cond b (Some f) (Some f) ≡ Some f
     same true = refl
     same false = refl
+
     go : (b : Bool) → is_before f g ≡ b → earlier (cond b (Some f) (Some g)) f ≡ cond b (Some f) (Some g)
     go true e = same (is_before f f)
     go false e = ap (λ b. cond b (Some f) (Some g)) e
@@ -106,6 +107,7 @@ block_from by firsts t names span found k (c ∷ cs) = go (λ f. block_from by f
     once : (f : Fault) (b : Bool) → f ≡ record { code = code_of by; span = span } → first_of (earlier found f) (when b (code_of by) span) ≡ earlier found f
     once f true is = ap (λ g. earlier (earlier found f) g) (sym is) ∙ again found f
     once f false is = refl
+
     go : ((f : Option Fault) → first_of f (against by firsts (exposed_but t names span (1 + k) cs)) ≡ first_of f (when (list_any (λ n. not (is_among n names)) (bad_from by firsts t (1 + k) cs)) (code_of by) span)) →
         (m : Bool) → is_among c.name names ≡ m → (b : Bool) → is_bad by (first_named firsts c.name) k (class_at t k) ≡ b →
         first_of found (against by firsts (cond m [] (property_at t c.name span k ∷ []) ++ exposed_but t names span (1 + k) cs)) ≡
@@ -114,13 +116,13 @@ block_from by firsts t names span found k (c ∷ cs) = go (λ f. block_from by f
     go later true m false b = later found
     go later false m true b =
         ap (λ l. first_of found (l ++ against by firsts (exposed_but t names span (1 + k) cs)))
-            (clash_when by (first_named firsts c.name) (property_at t c.name span k) ∙ ap (λ w. when w (code_of by) span) b)
+        (clash_when by (first_named firsts c.name) (property_at t c.name span k) ∙ ap (λ w. when w (code_of by) span) b)
         ∙ later (earlier found (record { code = code_of by; span = span }))
         ∙ once (record { code = code_of by; span = span }) (list_any (λ n. not (is_among n names)) (bad_from by firsts t (1 + k) cs)) refl
         ∙ ap (λ w. first_of found (when (not w || list_any (λ n. not (is_among n names)) (bad_from by firsts t (1 + k) cs)) (code_of by) span)) (sym m)
     go later false m false b =
         ap (λ l. first_of found (l ++ against by firsts (exposed_but t names span (1 + k) cs)))
-            (clash_when by (first_named firsts c.name) (property_at t c.name span k) ∙ ap (λ w. when w (code_of by) span) b)
+        (clash_when by (first_named firsts c.name) (property_at t c.name span k) ∙ ap (λ w. when w (code_of by) span) b)
         ∙ later found
 
 pub block_against : (by : Part) (firsts : List Exposed) (t : Table) (names : List Named) (span : Span) (found : Option Fault) →
@@ -153,10 +155,13 @@ behind by firsts before (x ∷ xs) is = ap2 (head (first_named before x.name) re
   where
     later : (q : List ℕ) → first_named firsts q ≡ first_named ((before ++ x ∷ []) ++ xs) q
     later q = is q ∙ ap (λ l. first_named l q) (sym (append_assoc before (x ∷ []) xs))
+
     ap2 : {a b c d : List Fault} → a ≡ b → c ≡ d → a ++ c ≡ b ++ d
     ap2 {a = a} {d = d} e f = ap (λ l. a ++ l) f ∙ ap (λ l. l ++ d) e
+
     itself : clash (code_of by) (λ p. p.span) (agree by) (Some x) x ≡ []
     itself = ap (λ b. when (not b) (code_of by) x.span) (agrees_itself by x)
+
     head : (o : Option Exposed) → first_named before x.name ≡ o →
         clash (code_of by) (λ p. p.span) (agree by) (first_named before x.name) x ≡ clash (code_of by) (λ p. p.span) (agree by) (first_named firsts x.name) x
     head (Some f) e =

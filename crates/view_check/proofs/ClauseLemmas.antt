@@ -166,9 +166,9 @@ behind_map : {X Y : Type 0} (f : X → Y) (code : Code) (span : Y → Span) (sam
 behind_map f code span same agree done [] = refl
 behind_map f code span same agree done (x ∷ xs) =
     ap (λ l. l ++ clashing_behind code (λ y. span (f y)) (λ y z. same (f y) (f z)) (λ y z. agree (f y) (f z)) (done ++ x ∷ []) xs)
-        (clash_map f code span agree (find (λ y. same (f y) (f x)) done) x ∙ ap (λ o. clash code span agree o (f x)) (find_map f (λ y. same y (f x)) done))
+    (clash_map f code span agree (find (λ y. same (f y) (f x)) done) x ∙ ap (λ o. clash code span agree o (f x)) (find_map f (λ y. same y (f x)) done))
     ∙ ap (λ l. clash code span agree (find (λ y. same y (f x)) (map f done)) (f x) ++ l)
-        (behind_map f code span same agree (done ++ x ∷ []) xs ∙ ap (λ l. clashing_behind code span same agree l (map f xs)) (map_append f done (x ∷ [])))
+    (behind_map f code span same agree (done ++ x ∷ []) xs ∙ ap (λ l. clashing_behind code span same agree l (map f xs)) (map_append f done (x ∷ [])))
 
 pub clauses_clash : (tables : List Table) (clauses : List Clause) (shown : List Shown) (found : Option Fault) → map (shown_by tables) clauses ≡ shown →
     first_of found (clashing codes_of.LabelPropertiesDiffer (λ c. c.span) (λ c d. bytes_eq c.label.now d.label.now) (λ c d. nat_eq c.element d.element || same_texts (names_in tables c.source) (names_in tables d.source)) clauses) ≡

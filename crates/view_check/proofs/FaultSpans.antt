@@ -308,6 +308,7 @@ module _ (P : Span → Type 0) where
       go : (l : LabelDef) → LabelHas P l → (b : Bool) → AllByRecursion Shows (cond b (shown t n e l ∷ []) [])
       go l h true = (h.0, tt)
       go l h false = tt
+
       one : (l : LabelDef) → LabelHas P l → AllByRecursion Shows (cond (is_sound_label t l.properties) (shown t n e l ∷ []) [])
       one l h = go l h (is_sound_label t l.properties)
 

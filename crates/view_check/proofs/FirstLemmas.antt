@@ -107,8 +107,8 @@ pub names_step : {X : Type 0} (f : X → List ℕ) (a o : Option Exposed) (q : L
 names_step f a o q xs i x within is =
     or_assoc a (cond (bytes_eq (f x) q) o None) (cond (list_any (λ y. bytes_eq (f y) q) (drop (i + 1) xs)) o None)
     ∙ ap (or_first a) (any_cond (bytes_eq (f x) q) (list_any (λ y. bytes_eq (f y) q) (drop (i + 1) xs)) o
-        ∙ ap (λ y. cond (bytes_eq (f y) q || list_any (λ z. bytes_eq (f z) q) (drop (i + 1) xs)) o None) is
-        ∙ ap (λ l. cond (list_any (λ y. bytes_eq (f y) q) l) o None) (sym (drop_more xs i x within)))
+    ∙ ap (λ y. cond (bytes_eq (f y) q || list_any (λ z. bytes_eq (f z) q) (drop (i + 1) xs)) o None) is
+    ∙ ap (λ l. cond (list_any (λ y. bytes_eq (f y) q) l) o None) (sym (drop_more xs i x within)))
 
 -- a name that is no column's has no property
 pub all_columns : (t : Table) (names : List Named) (span : Span) (q : List ℕ) → cond (has_column t q) (all_but t names span q) None ≡ all_but t names span q
@@ -124,8 +124,8 @@ pub lists_step : {X : Type 0} (f : X → List Exposed) (a : Option Exposed) (q :
 lists_step f a q xs i x within is =
     or_assoc a (first_named (f x) q) (first_named (flat_map f (drop (i + 1) xs)) q)
     ∙ ap (or_first a) (sym (first_append (f x) (flat_map f (drop (i + 1) xs)) q)
-        ∙ ap (λ y. first_named (f y ++ flat_map f (drop (i + 1) xs)) q) is
-        ∙ ap (λ l. first_named (flat_map f l) q) (sym (drop_more xs i x within)))
+    ∙ ap (λ y. first_named (f y ++ flat_map f (drop (i + 1) xs)) q) is
+    ∙ ap (λ l. first_named (flat_map f l) q) (sym (drop_more xs i x within)))
 
 -- ---- ALL COLUMNS
 
@@ -141,14 +141,14 @@ block_from t names span q k [] = refl
 block_from t names span q k (c ∷ cs) =
     let sum : (1 + k) + position_or_len (λ (d : Column). bytes_eq d.name q) cs ≡ k + (1 + position_or_len (λ (d : Column). bytes_eq d.name q) cs) = omega arith in
     go (block_from t names span q (1 + k) cs ∙ ap (λ n. cond (list_any (λ d. bytes_eq d.name q) cs && not (is_among q names)) (Some (property_at t q span n)) None) sum)
-        (bytes_eq c.name q) refl (is_among c.name names) refl
+    (bytes_eq c.name q) refl (is_among c.name names) refl
   where
     go : first_named (exposed_but t names span (1 + k) cs) q ≡
         cond (list_any (λ d. bytes_eq d.name q) cs && not (is_among q names)) (Some (property_at t q span (k + (1 + position_or_len (λ d. bytes_eq d.name q) cs)))) None →
         (b : Bool) → bytes_eq c.name q ≡ b → (m : Bool) → is_among c.name names ≡ m →
         first_named (cond m [] (property_at t c.name span k ∷ []) ++ exposed_but t names span (1 + k) cs) q ≡
         cond ((b || list_any (λ d. bytes_eq d.name q) cs) && not (is_among q names))
-            (Some (property_at t q span (k + cond (not b) (1 + position_or_len (λ d. bytes_eq d.name q) cs) 0))) None
+        (Some (property_at t q span (k + cond (not b) (1 + position_or_len (λ d. bytes_eq d.name q) cs) 0))) None
     go later true e true h =
         let same : c.name ≡ q = (bytes_decides c.name q).0 e in
         let among : is_among q names ≡ true = ap (λ n. is_among n names) (sym same) ∙ h in
@@ -224,8 +224,8 @@ pub refs_step : (tables : List Table) (a : Option Exposed) (q : List ℕ) (xs : 
 refs_step tables a q xs i x within is =
     or_assoc a (first_named (properties_in tables x.now) q) (first_named (flat_map (properties_in tables) (map (λ e. e.now) (drop (i + 1) xs))) q)
     ∙ ap (or_first a) (sym (first_append (properties_in tables x.now) (flat_map (properties_in tables) (map (λ e. e.now) (drop (i + 1) xs))) q)
-        ∙ ap (λ (y : Bor ElementDef). first_named (properties_in tables y.now ++ flat_map (properties_in tables) (map (λ e. e.now) (drop (i + 1) xs))) q) is
-        ∙ ap (λ l. first_named (flat_map (properties_in tables) (map (λ (e : Bor ElementDef). e.now) l)) q) (sym (drop_more xs i x within)))
+    ∙ ap (λ (y : Bor ElementDef). first_named (properties_in tables y.now ++ flat_map (properties_in tables) (map (λ e. e.now) (drop (i + 1) xs))) q) is
+    ∙ ap (λ l. first_named (flat_map (properties_in tables) (map (λ (e : Bor ElementDef). e.now) l)) q) (sym (drop_more xs i x within)))
 
 -- ---- one clause, one element
 

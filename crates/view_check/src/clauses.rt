@@ -162,9 +162,7 @@ fn are_left_out_or_within(
 ) -> bool
     ensures { result ≡ list_all (λ c. is_among c.name names.now || has_text c.name (names_in entries.now other.now)) columns.now }
 {
-    columns
-        .iter()
-        .all(|column| names.has(&column.name) || shows(entries, other, &column.name))
+    columns.iter().all(|column| names.has(&column.name) || shows(entries, other, &column.name))
 }
 
 fn are_columns_within(
@@ -247,8 +245,7 @@ impl<'s, 'a, 'c> Agreement<Clause<'c>> for LabelProperties<'s, 'a> {
     }
 
     fn agrees(&self, first: &Clause<'c>, item: &Clause<'c>) -> bool {
-        first.element == item.element
-            || have_same_names(self.entries, &first.source, &item.source)
+        first.element == item.element || have_same_names(self.entries, &first.source, &item.source)
     }
 
     fn span(&self, item: &Clause<'c>) -> Span {

@@ -182,13 +182,7 @@ fn left_of<'a>(left: Option<(usize, &'a [Named])>, place: usize) -> Option<&'a [
 {
     match left {
         None => None,
-        Some((known, rest)) => {
-            if known == place {
-                Some(rest)
-            } else {
-                None
-            }
-        }
+        Some((known, rest)) => { if known == place { Some(rest) } else { None } }
     }
 }
 

@@ -16,6 +16,6 @@ loop-label-preserved c =
     let is : x ≡ get_or labels i x = search rules in (
       c.in_ok-state.ensures.bad,
       ap (λ f. first_of f (against c.args.by.1 c.args.by.0.now (flat_map (λ (l : LabelDef). exposed_in c.args.at.1.now l.span l.properties) (drop (i + 1) labels)))) c.in_ok-state.ensures.found
-      ∙ sym (labels_step c.args.by.1 c.args.by.0.now c.args.at.1.now c.loop-label.state.found labels i x within is)
-      ∙ c.loop-label.invariant.1,
+          ∙ sym (labels_step c.args.by.1 c.args.by.0.now c.args.at.1.now c.loop-label.state.found labels i x within is)
+          ∙ c.loop-label.invariant.1,
     )

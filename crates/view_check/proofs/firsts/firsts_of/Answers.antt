@@ -11,7 +11,7 @@ loop-element-preserved c =
     let within : i < length c.args.elements.now = search rules in (
       c.in_ok-state.ensures.left,
       λ q.
-      ap (λ p. or_first p (first_named (flat_map (properties_in c.args.entries.now) (map (λ e. e.now) (drop (i + 1) c.args.elements.now))) q)) (c.in_ok-state.ensures.value q)
-      ∙ refs_step c.args.entries.now (first_named c.loop-element.state.firsts q) q c.args.elements.now i c.element-item.result within c.element-item.is
-      ∙ c.loop-element.invariant.1 q,
+          ap (λ p. or_first p (first_named (flat_map (properties_in c.args.entries.now) (map (λ e. e.now) (drop (i + 1) c.args.elements.now))) q)) (c.in_ok-state.ensures.value q)
+          ∙ refs_step c.args.entries.now (first_named c.loop-element.state.firsts q) q c.args.elements.now i c.element-item.result within c.element-item.is
+          ∙ c.loop-element.invariant.1 q,
     )

@@ -18,4 +18,4 @@ returns-in_ok-with-in-Some c = λ q.
     let is : all_but c.args.entry.now c.args.at.1.now c.args.at.0 c.args.name.now ≡ Some c.in-Some.item = search rules in
     ap (λ l. first_named l q) c.in_ok-with-in-Some.ensures
     ∙ put c.args.firsts c.args.name.now c.in-Some.item (all_but c.args.entry.now c.args.at.1.now c.args.at.0)
-        (all_but_named c.args.entry.now c.args.at.1.now c.args.at.0 c.args.name.now c.in-Some.item is) is q
+    (all_but_named c.args.entry.now c.args.at.1.now c.args.at.0 c.args.name.now c.in-Some.item is) is q

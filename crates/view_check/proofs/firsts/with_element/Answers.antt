@@ -15,9 +15,9 @@ loop-label-preserved c =
     let is : x ≡ get_or labels i x = search rules in (
       c.in_ok-state.ensures.left,
       λ q.
-      ap (λ p. or_first p (first_named (flat_map (λ (l : LabelDef). exposed_in c.args.at.1.now l.span l.properties) (drop (i + 1) labels)) q)) (c.in_ok-state.ensures.value q)
-      ∙ lists_step (λ (l : LabelDef). exposed_in c.args.at.1.now l.span l.properties) (first_named c.loop-label.state.firsts q) q labels i x within is
-      ∙ c.loop-label.invariant.1 q,
+          ap (λ p. or_first p (first_named (flat_map (λ (l : LabelDef). exposed_in c.args.at.1.now l.span l.properties) (drop (i + 1) labels)) q)) (c.in_ok-state.ensures.value q)
+          ∙ lists_step (λ (l : LabelDef). exposed_in c.args.at.1.now l.span l.properties) (first_named c.loop-label.state.firsts q) q labels i x within is
+          ∙ c.loop-label.invariant.1 q,
     )
 
 pub returns-clause-value : goal.returns-clause-value
