@@ -1,5 +1,6 @@
 -- What the rules answer of the tree that the tokens of a text spell is what the text is due.
 use Rattle.std.proofs.Common.{◌≡◌, subst, ◌≤◌, ℕ, List, length, inr, Option, None, Some, IfSome, Result, Ok, Err}
+use Rattle.pgq_base.specs.Answers.{Gives}
 use Rattle.pgq_base.specs.declared.refusal.Refusal.{Refusal}
 use Rattle.pgq_base.specs.declared.refusal.Stop.{Stop}
 use Rattle.pgq_base.specs.declared.refusal.Stop.TheVariants.{Refused, NoMemory}
@@ -8,7 +9,7 @@ use Rattle.sql_lexer.specs.Texts.{AreTokens, most_tokens}
 use Rattle.graph_ast.specs.declared.schema.SchemaTree.{SchemaTree}
 use Rattle.graph_ast.specs.declared.catalog.Catalog.{Catalog}
 use Rattle.schema_parser.specs.Outcomes.{SpellsSchema, IsShallow}
-use Rattle.view_check.specs.Checks.{due, IsAnswer}
+use Rattle.view_check.specs.Checks.{due}
 use Rattle.pgq_base.specs.declared.refusal.Role.TheVariants.{Schema}
 use Rattle.pgq_program.specs.declared.halt.Halt.{Halt}
 use Rattle.pgq_program.specs.declared.halt.Halt.TheVariants as h
@@ -18,10 +19,10 @@ use Rattle.pgq_program.specs.Steps.{StepGives, Halted, IsCatalogAt, text_at}
 use Rattle.pgq_program.specs.Texts.{GivesDue}
 
 pub at_rules : (text : List ℕ) (tokens : List Token) (tree : SchemaTree) (r : Result Catalog (Stop Refusal)) → AreTokens text tokens → length tokens ≤ most_tokens
-    → (seen : List Token) → seen ≡ tokens → SpellsSchema seen tree → IsShallow seen → IsAnswer (due tree) r → GivesDue (IsRead text) r
+    → (seen : List Token) → seen ≡ tokens → SpellsSchema seen tree → IsShallow seen → Gives (due tree) r → GivesDue (IsRead text) r
 at_rules text tokens tree r a few seen same s shallow e = by r e (subst (λ l. SpellsSchema l tree) same s) (subst IsShallow same shallow)
   where
-    by : (r : Result Catalog (Stop Refusal)) → IsAnswer (due tree) r → SpellsSchema tokens tree → IsShallow tokens → GivesDue (IsRead text) r
+    by : (r : Result Catalog (Stop Refusal)) → Gives (due tree) r → SpellsSchema tokens tree → IsShallow tokens → GivesDue (IsRead text) r
     by (Ok catalog) e s shallow = (tokens, (a, few), (tree, (s, shallow), e))
     by (Err (Refused refusal)) e s shallow = inr (tokens, (a, few), inr (tree, (s, shallow), e))
     by (Err NoMemory) e s shallow = tt

@@ -3,7 +3,6 @@
 use Rattle.std.specs.Prelude.{◌≡◌, ◌≤◌, ℕ, List, length, Result, Ok, Err}
 use Rattle.pgq_base.specs.declared.refusal.Refusal.{Refusal}
 use Rattle.pgq_base.specs.declared.refusal.Role.TheVariants.{Schema}
-use Rattle.pgq_base.specs.declared.refusal.Stop.TheVariants as s
 use Rattle.sql_lexer.specs.declared.token.Token.{Token}
 use Rattle.sql_lexer.specs.Texts.{AreTokens, most_tokens, IsFirstFault, refusal}
 use Rattle.graph_ast.specs.declared.schema.SchemaTree.{SchemaTree}
@@ -20,7 +19,7 @@ IsLexed text (Err fault) = (fault ≡ refusal Schema fault.code fault.span) × I
 -- the catalog that the tree stands for, or the first fault by the rules
 abbrev pub IsChecked : SchemaTree → Result Catalog Refusal → Type 0
 IsChecked tree (Ok catalog) = rules.due tree ≡ Ok catalog
-IsChecked tree (Err fault) = rules.due tree ≡ Err (s.Refused fault)
+IsChecked tree (Err fault) = rules.due tree ≡ Err fault
 
 -- what the text is due
 abbrev pub IsRead : List ℕ → Result Catalog Refusal → Type 0

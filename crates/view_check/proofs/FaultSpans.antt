@@ -37,7 +37,7 @@ use Rattle.view_check.specs.TableRules as tables
 use Rattle.view_check.specs.TableRules.{table_faults, faults_of_table, faults_of_rule, second_primary_behind, second_primary_keys, is_primary, in_text_order, duplicates_in_lists, unknown_columns, unknown_in_lists, faults_of_reference, reference_faults, shape_fails, target_not_unique, unsupported_type, unsupported_constraint, duplicate_columns, table_named, targets_of}
 use Rattle.view_check.specs.Catalogs.{tables_of}
 use Rattle.view_check.specs.GraphRules as graphs
-use Rattle.view_check.specs.GraphRules.{graph_faults, faults_of_graph, faults_of_edge, faults_of_end, faults_of_element, faults_in_table, duplicates_in_key, duplicates_in_properties, duplicates_in_label, duplicates_in_end, unknown_column, unknown_in_key, unknown_in_properties, unknown_in_label, key_not_unique, faults_of_key, duplicate_labels, element_name, label_name, property_name, named_table, key_places, property_at, exposed_by, exposed_but, exposed_in, properties_of, properties_under, properties_in, property_columns_differ, property_classes_differ, is_sound_label, is_sound, shown, shown_behind, shown_under, shown_in, label_properties_differ, vertex_named, unknown_vertex, faults_of_short, faults_of_full, reference_mismatch, references_to, faults_at_vertex, faults_with_table, faults_with_vertex, faults_with_own, end_vertex, own_columns, duplicate_elements, duplicate_graphs, has_column, column_place}
+use Rattle.view_check.specs.GraphRules.{graph_faults, faults_of_graph, faults_of_edge, faults_of_end, faults_of_element, faults_in_table, duplicates_in_key, duplicates_in_properties, duplicates_in_label, duplicates_in_end, unknown_column, unknown_in_key, unknown_in_properties, unknown_in_label, key_not_unique, faults_of_key, duplicate_labels, element_name, label_name, property_name, named_table, key_places, property_at, exposed_by, exposed_but, exposed_in, properties_of, properties_under, properties_in, property_columns_differ, property_classes_differ, is_sound_label, is_sound, shown, shown_of, shown_under, shown_in, shown_from, label_properties_differ, vertex_named, unknown_vertex, faults_of_short, faults_of_full, reference_mismatch, references_to, faults_at_vertex, faults_with_table, faults_with_vertex, faults_with_own, end_vertex, own_columns, duplicate_elements, duplicate_graphs, has_column, column_place}
 use Rattle.view_check.specs.Limits.{at_item, past, long_list, long_rule, long_key, large_table, large_element, large_edge, large_graph, size_faults}
 use Rattle.view_check.specs.Phases.{or_then, first_fault}
 use Rattle.view_check.proofs.ValidTables.{each_in_order}
@@ -302,22 +302,26 @@ module _ (P : Span → Type 0) where
   abbrev Shows : Shown → Type 0
   Shows x = P x.span
 
-  clauses_have : (t : Table) (e : ElementDef) (before : List Named) (ls : List LabelDef) → AllByRecursion (LabelHas P) ls → AllByRecursion Shows (shown_behind t e before ls)
-  clauses_have t e before [] h = tt
-  clauses_have t e before (l ∷ ls) h =
-      both Shows (cond (not (is_among (label_name e l).name before) && is_sound_label t l.properties) (shown t e l ∷ []) []) (shown_behind t e (before ++ label_name e l ∷ []) ls)
-      (go (not (is_among (label_name e l).name before) && is_sound_label t l.properties)) (clauses_have t e (before ++ label_name e l ∷ []) ls h.1)
+  clauses_have : (t : Table) (n : ℕ) (e : ElementDef) (ls : List LabelDef) → AllByRecursion (LabelHas P) ls → AllByRecursion Shows (shown_of t n e ls)
+  clauses_have t n e ls h = each (LabelHas P) Shows (λ l. cond (is_sound_label t l.properties) (shown t n e l ∷ []) []) one ls h
     where
-      go : (b : Bool) → AllByRecursion Shows (cond b (shown t e l ∷ []) [])
-      go true = (h.0.0, tt)
-      go false = tt
+      go : (l : LabelDef) → LabelHas P l → (b : Bool) → AllByRecursion Shows (cond b (shown t n e l ∷ []) [])
+      go l h true = (h.0, tt)
+      go l h false = tt
 
-  labels_have : (ts : List Table) (e : ElementDef) → ElementHas P e → AllByRecursion Shows (shown_in ts e)
-  labels_have ts e h = go (named_table ts e.table.name)
+      one : (l : LabelDef) → LabelHas P l → AllByRecursion Shows (cond (is_sound_label t l.properties) (shown t n e l ∷ []) [])
+      one l h = go l h (is_sound_label t l.properties)
+
+  labels_have : (ts : List Table) (n : ℕ) (e : ElementDef) → ElementHas P e → AllByRecursion Shows (shown_in ts n e)
+  labels_have ts n e h = go (named_table ts e.table.name)
     where
-      go : (o : Option Table) → AllByRecursion Shows (shown_under o e)
+      go : (o : Option Table) → AllByRecursion Shows (shown_under o n e)
       go None = tt
-      go (Some t) = clauses_have t e [] e.labels h.labels
+      go (Some t) = clauses_have t n e e.labels h.labels
+
+  all_labels_have : (ts : List Table) (n : ℕ) (es : List ElementDef) → AllByRecursion (ElementHas P) es → AllByRecursion Shows (shown_from ts n es)
+  all_labels_have ts n [] h = tt
+  all_labels_have ts n (e ∷ es) h = both Shows (shown_in ts n e) (shown_from ts (1 + n) es) (labels_have ts n e h.0) (all_labels_have ts (1 + n) es h.1)
 
   -- ---- faults at an element
 
@@ -412,14 +416,14 @@ module _ (P : Span → Type 0) where
   unfolding faults_of_graph
   at_graph ts g h =
       let all : AllByRecursion (ElementHas P) (elements g) = elements_have g h in
-      pair (duplicate_elements g ++ flat_map (faults_of_element ts) (elements g) ++ flat_map (faults_of_edge ts g) g.edges ++ label_properties_differ (flat_map (shown_in ts) (elements g))) (property_classes_differ (flat_map (properties_in ts) (elements g)))
-      (pair (duplicate_elements g ++ flat_map (faults_of_element ts) (elements g) ++ flat_map (faults_of_edge ts g) g.edges) (label_properties_differ (flat_map (shown_in ts) (elements g)))
+      pair (duplicate_elements g ++ flat_map (faults_of_element ts) (elements g) ++ flat_map (faults_of_edge ts g) g.edges ++ label_properties_differ (shown_from ts 0 (elements g))) (property_classes_differ (flat_map (properties_in ts) (elements g)))
+      (pair (duplicate_elements g ++ flat_map (faults_of_element ts) (elements g) ++ flat_map (faults_of_edge ts g) g.edges) (label_properties_differ (shown_from ts 0 (elements g)))
       (pair (duplicate_elements g ++ flat_map (faults_of_element ts) (elements g)) (flat_map (faults_of_edge ts g) g.edges)
       (pair (duplicate_elements g) (flat_map (faults_of_element ts) (elements g))
       (at_repeated code.DuplicateElement [] (map element_name (elements g)) (at_elements_names (elements g) all))
       (each (ElementHas P) (λ f. P f.span) (faults_of_element ts) (at_element ts) (elements g) all))
       (each (EdgeHas P) (λ f. P f.span) (faults_of_edge ts g) (at_edge ts g) g.edges h.edges))
-      (at_clashing code.LabelPropertiesDiffer (λ (l : Shown). l.span) _ _ [] (flat_map (shown_in ts) (elements g)) (each (ElementHas P) Shows (shown_in ts) (labels_have ts) (elements g) all)))
+      (at_clashing code.LabelPropertiesDiffer (λ (l : Shown). l.span) _ _ [] (shown_from ts 0 (elements g)) (all_labels_have ts 0 (elements g) all)))
       (at_clashing code.PropertyClassesDiffer (λ (p : Exposed). p.span) _ _ [] (flat_map (properties_in ts) (elements g)) (each (ElementHas P) Exposes (properties_in ts) (all_properties_have ts) (elements g) all))
 
   at_graphs : (ts : List Table) (ss : List Statement) → AllByRecursion (StatementHas P) ss → Have (graph_faults ts ss)
