@@ -2,4 +2,6 @@ pub mod Checked
 pub mod Given
 pub mod OneDue
 pub mod Placed
+pub mod PlacedFiles
+pub mod PlacedTexts
 pub mod Translated

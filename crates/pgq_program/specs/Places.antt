@@ -4,6 +4,8 @@ use Rattle.pgq_base.specs.Files.{content_of}
 use Rattle.pgq_base.specs.declared.refusal.Role.{Role}
 use Rattle.pgq_base.specs.declared.refusal.Role.TheVariants.{Schema, Query, Sql, Table}
 use Rattle.pgq_base.specs.declared.refusal.Refusal.{Refusal}
+use Rattle.pgq_base.specs.declared.refusal.Stop.{Stop}
+use Rattle.pgq_base.specs.declared.refusal.Stop.TheVariants as s
 use Rattle.sql_lexer.specs.Spans.{LiesIn}
 use Rattle.pgq_program.specs.declared.halt.Halt.TheVariants as h
 use Rattle.pgq_program.specs.Commands.{Asked}
@@ -29,9 +31,14 @@ pub record NamesPart (texts : Role → Option (List ℕ)) (refusal : Refusal) : 
   pub is_text : texts refusal.role ≡ Some text
   pub in_text : LiesIn (length text) refusal.span
 
--- the line is that of the refusal that is due, and under `check` it names a part of the text
+-- so does what stops a call, unless it is want of memory
+abbrev pub StopNamesPart : (Role → Option (List ℕ)) → Stop Refusal → Type 0
+StopNamesPart texts (s.Refused refusal) = NamesPart texts refusal
+StopNamesPart texts s.NoMemory = Unit {0}
+
+-- the line is that of the refusal that is due, which names a part of the text of its role
 pub record IsLineDue (asked : Option Asked) (files : List (List ℕ × List ℕ)) (line : List ℕ) : Type 0 where
   pub refusal : Refusal
   pub due : Owes asked files (Err (h.Refused refusal))
   pub is_line : line ≡ refusal_line refusal
-  pub in_text : (schema : List ℕ) → asked ≡ Some (Asked.OfCheck schema) → NamesPart (text_for asked files) refusal
+  pub in_text : NamesPart (text_for asked files) refusal

@@ -57,7 +57,7 @@ pub fn pgq<F: Shelf, S: Sink, E: Sink>(
         → (Rose (F.faults files.old) (F.faults files.new) → ⊥) → (Rose (S.faults out.old) (S.faults out.new) → ⊥) → (Rose (E.faults err.old) (E.faults err.new) → ⊥)
         → ((result ≡ Status.Refused) × Appends (E.received err.old) (E.received err.new) (refusal_line refusal)) ⊎ (result ≡ Status.NoMemory)) }
 
-    // Under Refused `err` received the line of the refusal that is due, which under `check` names a part of the schema text.
+    // Under Refused `err` received the line of the refusal that is due, which names a part of the text of its role.
     ensures told { result ≡ Status.Refused → IfSome (F.files files.old) (λ told. (line : List ℕ) × IsLineDue (command_of words.now) told line
         × Appends (E.received err.old) (E.received err.new) line) }
 

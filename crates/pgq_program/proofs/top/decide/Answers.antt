@@ -1,6 +1,6 @@
 use Rattle.pgq_program.specs.Commands.{command_of}
 use Rattle.pgq_program.proofs.Given.{written_if, told_if}
-use Rattle.pgq_program.proofs.Placed.{line_if}
+use Rattle.pgq_program.proofs.PlacedFiles.{line_if}
 use Rattle.pgq_program.proofs.top.decide.Goals as goal
 
 pub returns-clause-complete : goal.returns-clause-complete
