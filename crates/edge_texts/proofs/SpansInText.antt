@@ -1,9 +1,8 @@
 -- What is read of a text has its spans in the text: each of them is a token's.
-use Rattle.std.proofs.Common.{◌≡◌, refl, sym, ap, subst, ◌∙◌, ℕ, zero, suc, ◌+◌, ◌-◌, ◌≤◌, Bool, true, false, cond, List, [], ◌∷◌, ◌++◌, length, Option, None, Some, IfSome, Result, Ok, Err, IfOk, IfErr, arith}
+use Rattle.std.proofs.Common.{◌≡◌, refl, sym, subst, ℕ, zero, suc, ◌+◌, ◌-◌, ◌≤◌, Bool, true, false, cond, List, [], ◌∷◌, length, Option, None, Some, IfSome, Result, Ok, Err, IfOk, arith}
 use Rattle.std.specs.Prelude.{nat_le, not, filter, map, take_while, bytes_eq, codes}
 use Rattle.std.specs.List.{AllByRecursion, prefix_len}
 use Rattle.std.proofs.lemmas.List.Sums.{prefix_len-le-length}
-use Rattle.pgq_base.specs.declared.refusal.Span.{Span}
 use Rattle.pgq_base.specs.declared.refusal.Refusal.{Refusal}
 use Rattle.pgq_base.specs.declared.refusal.Role.TheVariants as r
 use Rattle.pgq_base.specs.declared.code.Code.TheVariants.{UnknownGraph, UnknownProperty}
@@ -17,7 +16,7 @@ use Rattle.edge_texts.specs.declared.token.Token.{Token}
 use Rattle.edge_texts.specs.declared.form.Named.{Named}
 use Rattle.edge_texts.specs.Tokens.{is_space, is_digit, is_symbol, is_in_word, starts_word, folded, first_token, token_before, tokens_from, tokens_of, within_limit}
 use Rattle.edge_texts.specs.Forms.{Slot, word, symbol, fills, fixed, is_name, name_in, name_from, then, is_next}
-use Rattle.edge_texts.specs.Queries.{output_from, before_outputs, next_output, outputs_from, more_outputs, all_outputs, pattern_from, with_columns, query_from, is_proper, ended, query_in, query_of, is_known, unknown_properties, query_faults, first_of, first_fault}
+use Rattle.edge_texts.specs.Queries.{output_from, before_outputs, next_output, outputs_from, more_outputs, all_outputs, pattern_from, with_columns, query_from, is_proper, ended, query_in, query_of, is_known, unknown_properties, first_of, first_fault}
 use Rattle.pgq_base.specs.Answers.{Gives}
 use Rattle.pgq_base.specs.declared.refusal.Stop.{Stop}
 use Rattle.edge_texts.specs.Refusals.{refusal_at, formed}

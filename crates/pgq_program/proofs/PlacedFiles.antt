@@ -1,5 +1,5 @@
 -- The refusal that words are due names a part of the text of its role.
-use Rattle.std.proofs.Common.{◌≡◌, refl, ap, ◌∙◌, subst, sym, ℕ, List, length, ◌⊎◌, inl, inr, Option, None, Some, IfSome, Result, Ok, Err}
+use Rattle.std.proofs.Common.{◌≡◌, refl, ap, subst, sym, ℕ, List, length, ◌⊎◌, inl, inr, Option, None, Some, IfSome, Result, Ok, Err}
 use Rattle.pgq_base.specs.Files.{content_of}
 use Rattle.pgq_base.specs.declared.refusal.Refusal.{Refusal}
 use Rattle.pgq_base.specs.declared.refusal.Role.{Role}
@@ -12,7 +12,6 @@ use Rattle.edge_texts.specs.Queries.{query_of}
 use Rattle.edge_texts.specs.QueryRefusals.{query_due}
 use Rattle.edge_texts.specs.Spans.{SpansLieIn}
 use Rattle.edge_texts.proofs.SpansInText.{query_given}
-use Rattle.pgq_program.specs.declared.halt.Halt.{Halt}
 use Rattle.pgq_program.specs.declared.halt.Halt.TheVariants as h
 use Rattle.pgq_program.specs.declared.answers.Answer.{Answer}
 use Rattle.pgq_program.specs.declared.answers.Answer.TheVariants as a

@@ -1,5 +1,5 @@
 -- A refusal of the two texts of `translate` names a part of the one of its role.
-use Rattle.std.proofs.Common.{◌≡◌, refl, ap, ◌∙◌, subst, sym, ◌≤◌, ℕ, List, length, ◌⊎◌, inl, inr, Bool, true, false, cond, Option, None, Some, IfSome, Result, Ok, Err, IfErr, arith}
+use Rattle.std.proofs.Common.{◌≡◌, refl, ap, subst, sym, ℕ, List, length, ◌⊎◌, inl, inr, Bool, true, false, cond, Option, None, Some, IfSome, Result, Ok, Err, IfErr, arith}
 use Rattle.std.specs.Prelude.{nat_le}
 use Rattle.pgq_base.specs.declared.code.Code.TheVariants.{TextTooLarge}
 use Rattle.pgq_base.specs.declared.refusal.Refusal.{Refusal}
@@ -7,7 +7,6 @@ use Rattle.pgq_base.specs.declared.refusal.Role.{Role}
 use Rattle.pgq_base.specs.declared.refusal.Role.TheVariants.{Schema, Query}
 use Rattle.pgq_base.specs.declared.refusal.Stop.{Stop}
 use Rattle.pgq_base.specs.declared.refusal.Stop.TheVariants as s
-use Rattle.sql_lexer.specs.Spans.{LiesIn}
 use Rattle.edge_meaning.specs.declared.graph.EdgeGraph.{EdgeGraph}
 use Rattle.edge_meaning.specs.declared.query.EdgeQuery.{EdgeQuery}
 use Rattle.edge_texts.specs.Refusals.{refusal_at, not_of_form, formed, schema_due}

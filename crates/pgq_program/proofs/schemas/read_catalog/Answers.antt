@@ -1,4 +1,3 @@
-use Rattle.std.proofs.Common.{length}
 use Rattle.pgq_program.proofs.Checked.{at_rules}
 use Rattle.pgq_program.proofs.Placed.{refusal_lies}
 use Rattle.pgq_program.proofs.schemas.read_catalog.Goals as goal
