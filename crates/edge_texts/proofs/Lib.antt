@@ -4,3 +4,4 @@ pub mod Graphs
 pub mod OutputSteps
 pub mod Passing
 pub mod Patterns
+pub mod SpansInText

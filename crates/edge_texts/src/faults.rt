@@ -1,5 +1,7 @@
-ghost use Rattle.std.specs.Prelude.{◌≡◌, bytes_eq};
+ghost use Rattle.std.specs.Prelude.{◌≡◌, ℕ, IfSome, bytes_eq};
+ghost use Rattle.sql_lexer.specs.Spans.{LiesIn};
 ghost use Rattle.edge_texts.specs.Refusals.{refusal_at};
+ghost use Rattle.edge_texts.specs.Spans.{SpansLieIn};
 ghost use Rattle.edge_texts.specs.Queries.{has_column, is_known, first_unknown, first_fault};
 
 use crate::schema::same_name;
@@ -46,9 +48,10 @@ fn first_unknown(graph: &EdgeGraph, query: &EdgeQuery) -> Option<Refusal>
 
 /// The first fault of a query under a graph, if there is one: `UnknownGraph` at the graph's name where the
 /// schema has another graph, and otherwise `UnknownProperty` at the first property that is no column of
-/// its variable's table.
+/// its variable's table. The place lies in the text in which the query's spans lie.
 pub fn find_fault(graph: &EdgeGraph, query: &EdgeQuery) -> Option<Refusal>
-    ensures { result ≡ first_fault graph.now query.now }
+    ensures value { result ≡ first_fault graph.now query.now }
+    ensures in_text { (length : ℕ) → SpansLieIn length query.now → IfSome result (λ refusal. LiesIn length refusal.span) }
 {
     if !same_name(&query.graph, &graph.name) {
         return Some(refusal(query.graph_span, Code::UnknownGraph));

@@ -1,4 +1,4 @@
-ghost use Rattle.std.specs.Prelude.{◌≡◌, ◌≤◌, IfOk, length, bytes_eq, not};
+ghost use Rattle.std.specs.Prelude.{◌≡◌, ◌≤◌, IfOk, IfErr, length, bytes_eq, not};
 ghost use Rattle.std.specs.List.{list_any, list_all};
 ghost use Rattle.multisets.specs.Bags.{IsIn};
 ghost use Rattle.edge_meaning.specs.Queries.{IsPattern, IsOfPattern};
@@ -7,6 +7,8 @@ ghost use Rattle.edge_texts.specs.Queries.{pattern_from, with_columns, query_fro
 ghost use Rattle.edge_texts.specs.Refusals.{Spelled};
 ghost use Rattle.pgq_base.specs.Answers.{Gives};
 ghost use Rattle.edge_texts.specs.QueryRefusals.{query_due};
+ghost use Rattle.edge_texts.specs.Spans.{SpansLieIn};
+ghost use Rattle.sql_lexer.specs.Spans.{RefusalLiesIn};
 
 use crate::form::{Cursor, Item, Miss, expect, take_name};
 use crate::lexing::tokens;
@@ -139,11 +141,13 @@ fn query_spelled(alloc: Global, tokens: &[Token]) -> Result<EdgeQuery, Miss>
 /// The query of a query text of one edge between two vertices.
 ///
 /// A text of another form is refused as a whole by `Unexpected`, with the span 0-0. The text has at
-/// most 1,048,576 bytes. Its names are looked at by `find_fault`.
+/// most 1,048,576 bytes. Its names are looked at by `find_fault`. All spans lie in the text.
 #[tactic(auto, unfolding(crate::specs::Queries::query_of))]
 pub fn read_query(alloc: Global, text: &[u8]) -> Result<EdgeQuery, Stop>
     requires { length text.now ≤ 1048576 }
     ensures value { Gives (query_due text.now) result }
+    ensures spans { IfOk result (SpansLieIn (length text.now)) }
+    ensures in_text { IfErr result (RefusalLiesIn (length text.now)) }
     ensures pattern { IfOk result (λ query. IsPattern query) }
     ensures columns { IfOk result (λ query. (column : _) → IsIn column query.columns → IsOfPattern query column) }
 {

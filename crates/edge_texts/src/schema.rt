@@ -1,9 +1,10 @@
-ghost use Rattle.std.specs.Prelude.{◌≡◌, ◌≤◌, IfOk, length, bytes_eq};
+ghost use Rattle.std.specs.Prelude.{◌≡◌, ◌≤◌, IfOk, IfErr, length, bytes_eq};
 ghost use Rattle.std.specs.List.{list_any, list_all};
 ghost use Rattle.edge_meaning.specs.Queries.{IsGraph};
 ghost use Rattle.edge_texts.specs.Schemas.{columns_differ, is_same_word, agrees_with, is_proper, is_end, statements_from, whole, proper, schema_of};
 ghost use Rattle.edge_texts.specs.Refusals.{Spelled, not_of_form, schema_due};
 ghost use Rattle.pgq_base.specs.Answers.{Gives};
+ghost use Rattle.sql_lexer.specs.Spans.{RefusalLiesIn};
 
 use crate::form::{Cursor, Miss, is_mark};
 use crate::lexing::tokens;
@@ -117,6 +118,7 @@ pub(crate) fn not_of_form(role: Role) -> Stop
 pub fn read_schema(alloc: Global, text: &[u8]) -> Result<EdgeGraph, Stop>
     requires { length text.now ≤ 1048576 }
     ensures value { Gives (schema_due text.now) result }
+    ensures in_text { IfErr result (RefusalLiesIn (length text.now)) }
     ensures graph { IfOk result (λ graph. IsGraph graph) }
 {
     let Some(tokens) = tokens(alloc, text)? else {

@@ -1,4 +1,7 @@
 pub mod Checked
 pub mod Given
 pub mod OneDue
+pub mod Placed
+pub mod PlacedFiles
+pub mod PlacedTexts
 pub mod Translated

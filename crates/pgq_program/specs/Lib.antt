@@ -3,6 +3,7 @@ pub mod Commands
 pub mod Lines
 pub mod Meaning
 pub mod Outcomes
+pub mod Places
 pub mod Runs
 pub mod Schemas
 pub mod Steps

@@ -20,4 +20,6 @@ pub use texts::translate_texts;
 pub use top::pgq;
 
 #[cfg(test)]
+mod schema_tests;
+#[cfg(test)]
 mod tests;

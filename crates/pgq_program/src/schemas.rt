@@ -1,4 +1,5 @@
-ghost use Rattle.std.specs.Prelude.{◌≤◌, length};
+ghost use Rattle.std.specs.Prelude.{◌≤◌, length, IfErr};
+ghost use Rattle.sql_lexer.specs.Spans.{RefusalLiesIn};
 ghost use Rattle.pgq_program.specs.Schemas.{IsRead};
 ghost use Rattle.pgq_program.specs.Texts.{GivesDue};
 
@@ -10,10 +11,11 @@ use sql_lexer::lex;
 use std::alloc::Global;
 use view_check::check_schema;
 
-/// The catalog of a schema text that is not too large.
+/// The catalog of a schema text that is not too large. A refusal names a part of the text.
 pub(crate) fn read_catalog(alloc: Global, text: &[u8]) -> Result<Catalog, Stop>
     requires { length text.now ≤ 1048576 }
-    ensures { GivesDue (IsRead text.now) result }
+    ensures due { GivesDue (IsRead text.now) result }
+    ensures in_text { IfErr result (RefusalLiesIn (length text.now)) }
 {
     let tokens = lex(alloc, text, Role::Schema)?;
     let tree = parse_schema(alloc, tokens.as_slice(), text.len() as u32)?;

@@ -37,7 +37,7 @@ const USAGE: &str =
 // No call of a device has this number.
 const NEVER: u64 = 1_000_000_000;
 
-fn bytes(alloc: Global, text: &[u8]) -> Result<List<u8>, NoMemory> {
+pub(crate) fn bytes(alloc: Global, text: &[u8]) -> Result<List<u8>, NoMemory> {
     let mut list = List::new(alloc);
     list.extend(text)?;
     Ok(list)
@@ -61,7 +61,7 @@ fn two<T: Drop>(alloc: Global, first: T, second: T) -> Result<List<T>, NoMemory>
 
 // The devices of a run: the calls that fail, and the sizes of pieces.
 #[derive(Clone, Copy)]
-struct Outside {
+pub(crate) struct Outside {
     shelf: u64,
     out: u64,
     err: u64,
@@ -69,7 +69,7 @@ struct Outside {
     out_piece: usize,
 }
 
-const SOUND: Outside = Outside {
+pub(crate) const SOUND: Outside = Outside {
     shelf: NEVER,
     out: NEVER,
     err: NEVER,
@@ -79,13 +79,13 @@ const SOUND: Outside = Outside {
 
 // What a run is to answer.
 #[derive(Clone, Copy)]
-struct Wanted<'a> {
+pub(crate) struct Wanted<'a> {
     status: Status,
     out: &'a [u8],
     err: &'a [u8],
 }
 
-fn refused(line: &str) -> Wanted<'_> {
+pub(crate) fn refused(line: &str) -> Wanted<'_> {
     Wanted {
         status: Status::Refused,
         out: b"",
@@ -102,7 +102,7 @@ fn words_of(alloc: Global, words: &[&str]) -> Result<List<Text>, NoMemory> {
 }
 
 // Runs the words over the files `schema` and `query`, and compares.
-fn expect(
+pub(crate) fn expect(
     rt: &impl Abort,
     alloc: Global,
     words: &[&str],
@@ -315,7 +315,7 @@ fn refuses_columns(rt: HostRuntime) -> Result<(), Fail> {
 }
 
 // Some bytes, so many equal ones, and some more.
-fn filled(
+pub(crate) fn filled(
     alloc: Global,
     front: &[u8],
     byte: u8,
@@ -378,9 +378,9 @@ fn expect_longest_name(rt: &impl Abort, alloc: Global) -> Result<(), NoMemory> {
     expect_name(rt, alloc, 128, done)
 }
 
-const CHECK: [&str; 2] = ["check", "schema"];
+pub(crate) const CHECK: [&str; 2] = ["check", "schema"];
 
-const CHECKED: Wanted<'static> = Wanted {
+pub(crate) const CHECKED: Wanted<'static> = Wanted {
     status: Status::Done,
     out: b"ok\n",
     err: b"",

@@ -1,9 +1,10 @@
-ghost use Rattle.std.specs.Prelude.{◌≡◌, ◌≤◌, None, IfOk, IfErr, IsOkAnd, length};
+ghost use Rattle.std.specs.Prelude.{◌≡◌, ◌≤◌, None, Some, IfOk, IfErr, IsOkAnd, length};
 ghost use Rattle.multisets.specs.Bags.{IsIn};
 ghost use Rattle.edge_meaning.specs.Queries.{IsGraph, IsPattern, IsOfPattern};
 ghost use Rattle.pgq_base.specs.Answers.{Gives};
 ghost use Rattle.edge_texts.specs.Refusals.{refusal_at};
 ghost use Rattle.pgq_program.specs.Meaning.{Means};
+ghost use Rattle.pgq_program.specs.Places.{StopNamesPart, of_role};
 ghost use Rattle.pgq_program.specs.Texts.{sized, graph_due, edge_query_due, checked, texts_due, IsStopOf};
 
 use edge_lowering::lower;
@@ -69,8 +70,17 @@ pub(crate) fn sql_text(
 ///
 /// A text of more than 1,048,576 bytes is refused by `TextTooLarge` and one of another form by
 /// `Unexpected`, the schema text first; then an unknown graph by `UnknownGraph` and an unknown property
-/// by `UnknownProperty`, at its place. No other text is refused. Want of memory may come instead.
+/// by `UnknownProperty`, at its place, which lies in the text of its role. No other text is refused. Want
+/// of memory may come instead.
 pub fn translate_texts(alloc: Global, schema: &[u8], query: &[u8]) -> Result<List<u8>, Stop>
+    ensures means { IfOk result (λ text. IsOkAnd (texts_due schema.now query.now) (λ due. Means due.0 due.1 text)) }
+    ensures refused { IfErr result (λ stop. IsStopOf (texts_due schema.now query.now) stop) }
+    ensures in_text { IfErr result (StopNamesPart (of_role (Some schema.now) (Some query.now))) }
+{
+    text_over(alloc, schema, query)
+}
+
+fn text_over(alloc: Global, schema: &[u8], query: &[u8]) -> Result<List<u8>, Stop>
     ensures means { IfOk result (λ text. IsOkAnd (texts_due schema.now query.now) (λ due. Means due.0 due.1 text)) }
     ensures refused { IfErr result (λ stop. IsStopOf (texts_due schema.now query.now) stop) }
 {

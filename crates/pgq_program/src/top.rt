@@ -1,10 +1,11 @@
-ghost use Rattle.std.specs.Prelude.{◌≡◌, ◌⊎◌, ◌≤◌, [], None, Some, IfSome, Ok, Err};
+ghost use Rattle.std.specs.Prelude.{◌≡◌, ◌⊎◌, ◌≤◌, ℕ, List, [], None, Some, IfSome, Ok, Err};
 ghost use Rattle.std.specs.Io.KnownBytes.{Appends};
 ghost use Rattle.pgq_base.specs.Causes.{Rose};
 ghost use Rattle.pgq_program.specs.declared.halt.Halt.TheVariants.{Refused as IsRefused};
 ghost use Rattle.pgq_program.specs.Commands.{command_of};
 ghost use Rattle.pgq_program.specs.Lines.{refusal_line, IsLineOf};
 ghost use Rattle.pgq_program.specs.Outcomes.{Outcome, IsTextOf, Writes};
+ghost use Rattle.pgq_program.specs.Places.{IsLineDue};
 ghost use Rattle.pgq_program.specs.Steps.{Owes};
 ghost use Rattle.pgq_program.specs.Runs.{IsDue, AnswerCause, Ran, HasLine, status_of, out_text, err_text};
 
@@ -56,6 +57,10 @@ pub fn pgq<F: Shelf, S: Sink, E: Sink>(
         → (Rose (F.faults files.old) (F.faults files.new) → ⊥) → (Rose (S.faults out.old) (S.faults out.new) → ⊥) → (Rose (E.faults err.old) (E.faults err.new) → ⊥)
         → ((result ≡ Status.Refused) × Appends (E.received err.old) (E.received err.new) (refusal_line refusal)) ⊎ (result ≡ Status.NoMemory)) }
 
+    // Under Refused `err` received the line of the refusal that is due, which names a part of the text of its role.
+    ensures told { result ≡ Status.Refused → IfSome (F.files files.old) (λ told. (line : List ℕ) × IsLineDue (command_of words.now) told line
+        × Appends (E.received err.old) (E.received err.new) line) }
+
     // Usage comes exactly by the form of the words, but for want of memory and a fault of a sink.
     ensures usage { result ≡ Status.Usage → command_of words.now ≡ None }
     ensures form { command_of words.now ≡ None → (result ≡ Status.Usage) ⊎ (result ≡ Status.NoMemory) ⊎ (result ≡ Status.WriteFault) }
@@ -91,6 +96,7 @@ fn decide<F: Shelf>(alloc: Global, words: &[Text], files: &mut F) -> Answer
     ensures line { IsLineOf (status_of result) (err_text result) }
     ensures form { command_of words.now ≡ None → status_of result ≡ Status.Usage }
     ensures usage { status_of result ≡ Status.Usage → command_of words.now ≡ None }
+    ensures told { status_of result ≡ Status.Refused → IfSome (F.files files.old) (λ told. IsLineDue (command_of words.now) told (err_text result)) }
     ensures complete { IfSome (F.files files.old) (λ told. (outcome : Outcome) → Owes (command_of words.now) told (Ok outcome) → (Rose (F.faults files.old) (F.faults files.new) → ⊥)
         → ((status_of result ≡ Status.Done) × IsTextOf outcome (out_text result)) ⊎ (status_of result ≡ Status.NoMemory)) }
     ensures refused { IfSome (F.files files.old) (λ told. (refusal : _) → Owes (command_of words.now) told (Err (IsRefused refusal)) → (Rose (F.faults files.old) (F.faults files.new) → ⊥)

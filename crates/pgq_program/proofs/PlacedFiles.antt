@@ -1,0 +1,115 @@
+-- The refusal that words are due names a part of the text of its role.
+use Rattle.std.proofs.Common.{◌≡◌, refl, ap, subst, sym, ℕ, List, length, ◌⊎◌, inl, inr, Option, None, Some, IfSome, Result, Ok, Err}
+use Rattle.pgq_base.specs.Files.{content_of}
+use Rattle.pgq_base.specs.declared.refusal.Refusal.{Refusal}
+use Rattle.pgq_base.specs.declared.refusal.Role.{Role}
+use Rattle.pgq_base.specs.declared.refusal.Role.TheVariants.{Schema, Query}
+use Rattle.edge_meaning.specs.declared.graph.EdgeGraph.{EdgeGraph}
+use Rattle.edge_meaning.specs.declared.query.EdgeQuery.{EdgeQuery}
+use Rattle.edge_texts.specs.Refusals.{schema_due}
+use Rattle.edge_texts.specs.Schemas.{schema_of}
+use Rattle.edge_texts.specs.Queries.{query_of}
+use Rattle.edge_texts.specs.QueryRefusals.{query_due}
+use Rattle.edge_texts.specs.Spans.{SpansLieIn}
+use Rattle.edge_texts.proofs.SpansInText.{query_given}
+use Rattle.pgq_program.specs.declared.halt.Halt.TheVariants as h
+use Rattle.pgq_program.specs.declared.answers.Answer.{Answer}
+use Rattle.pgq_program.specs.declared.answers.Answer.TheVariants as a
+use Rattle.pgq_program.specs.declared.status.Status.TheVariants.{Refused}
+use Rattle.pgq_program.specs.Commands.{Asked}
+use Rattle.pgq_program.specs.Places.{NamesPart, IsLineDue, of_role, text_for}
+use Rattle.pgq_program.specs.Runs.{IsDue, status_of, err_text}
+use Rattle.pgq_program.specs.Steps.{Owes, IsCatalogAt, halting, held_text, text_at, graph_at, query_at, translate_due}
+use Rattle.pgq_program.specs.Texts.{next, sized, checked}
+use Rattle.pgq_program.proofs.Placed.{IsPlaced, read}
+use Rattle.pgq_program.proofs.PlacedTexts.{refused_next, given_next, too_large, within_size, formless, names_lie, schema_part, query_part}
+
+halted : {A : Type 0} (due : Result A Refusal) (r : Refusal) → halting due ≡ Err (h.Refused r) → due ≡ Err r
+halted (Ok x) r e = absurd cc
+halted (Err refusal) r e = cc
+
+kept : {A : Type 0} (due : Result A Refusal) (x : A) → halting due ≡ Ok x → due ≡ Ok x
+kept (Ok y) x e = cc
+kept (Err refusal) x e = absurd cc
+
+-- ---- the text of a file
+
+-- there is a text, and P holds of it
+abbrev OfText : (List ℕ → Type 0) → Option (List ℕ) → Type 0
+OfText P held = (text : List ℕ) × (held ≡ Some text) × P text
+
+refused_text : (role : Role) (r : Refusal) (held : Option (List ℕ)) → held_text role held ≡ Err (h.Refused r) → OfText (λ text. IsPlaced role (length text) r) held
+refused_text role r None e = absurd cc
+refused_text role r (Some text) e = (text, refl, too_large role text r (halted (sized role text) r e))
+
+read_text : (role : Role) (text : List ℕ) (held : Option (List ℕ)) → held_text role held ≡ Ok text → held ≡ Some text
+read_text role text None e = absurd cc
+read_text role text (Some content) e = ap Some (within_size role content text (kept (sized role content) text e))
+
+module _ (files : List (List ℕ × List ℕ)) (name : List ℕ) where
+  refused_catalog : (r : Refusal) → IsCatalogAt name files (Err (h.Refused r)) → OfText (λ text. IsPlaced Schema (length text) r) (content_of name files)
+  refused_catalog r (inl e) = refused_text Schema r (content_of name files) e
+  refused_catalog r (inr (text, e, fault)) = (text, read_text Schema text (content_of name files) e, read text r fault)
+
+  refused_graph : (r : Refusal) → graph_at name files ≡ Err (h.Refused r) → OfText (λ text. IsPlaced Schema (length text) r) (content_of name files)
+  refused_graph r e = by (refused_next (text_at Schema name files) _ (h.Refused r) e)
+    where
+      by : ((text_at Schema name files ≡ Err (h.Refused r)) ⊎ ((text : List ℕ) × (text_at Schema name files ≡ Ok text) × (halting (schema_due text) ≡ Err (h.Refused r)))) → OfText (λ text. IsPlaced Schema (length text) r) (content_of name files)
+      by (inl e) = refused_text Schema r (content_of name files) e
+      by (inr (text, is, e)) = (text, read_text Schema text (content_of name files) is, formless Schema (length text) (schema_of text) r (halted (schema_due text) r e))
+
+  refused_query : (r : Refusal) → query_at name files ≡ Err (h.Refused r) → OfText (λ text. IsPlaced Query (length text) r) (content_of name files)
+  refused_query r e = by (refused_next (text_at Query name files) _ (h.Refused r) e)
+    where
+      by : ((text_at Query name files ≡ Err (h.Refused r)) ⊎ ((text : List ℕ) × (text_at Query name files ≡ Ok text) × (halting (query_due text) ≡ Err (h.Refused r)))) → OfText (λ text. IsPlaced Query (length text) r) (content_of name files)
+      by (inl e) = refused_text Query r (content_of name files) e
+      by (inr (text, is, e)) = (text, read_text Query text (content_of name files) is, formless Query (length text) (query_of text) r (halted (query_due text) r e))
+
+  given_query : (asked : EdgeQuery) → query_at name files ≡ Ok asked → OfText (λ text. SpansLieIn (length text) asked) (content_of name files)
+  given_query asked e =
+      let found = given_next (text_at Query name files) _ asked e in
+      (found.0, read_text Query found.0 (content_of name files) found.1, query_given found.0 asked (kept (query_due found.0) asked found.2))
+
+-- ---- the words
+
+in_schema : (schema query : Option (List ℕ)) (r : Refusal) → OfText (λ text. IsPlaced Schema (length text) r) schema → NamesPart (of_role schema query) r
+in_schema schema query r (text, held, placed) = subst (λ o. NamesPart (of_role o query) r) (sym held) (schema_part text query r placed)
+
+in_query : (schema query : Option (List ℕ)) (r : Refusal) → OfText (λ text. IsPlaced Query (length text) r) query → NamesPart (of_role schema query) r
+in_query schema query r (text, held, placed) = subst (λ o. NamesPart (of_role schema o) r) (sym held) (query_part schema text r placed)
+
+by_translate : (schema query : List ℕ) (files : List (List ℕ × List ℕ)) (r : Refusal) → translate_due schema query files ≡ Err (h.Refused r) → NamesPart (of_role (content_of schema files) (content_of query files)) r
+by_translate schema query files r e = by_graph (refused_next (graph_at schema files) _ (h.Refused r) e)
+  where
+    by_query : (graph : EdgeGraph) → ((query_at query files ≡ Err (h.Refused r)) ⊎ ((asked : EdgeQuery) × (query_at query files ≡ Ok asked) × (halting (checked graph asked) ≡ Err (h.Refused r))))
+        → NamesPart (of_role (content_of schema files) (content_of query files)) r
+    by_query graph (inl e) = in_query (content_of schema files) (content_of query files) r (refused_query files query r e)
+    by_query graph (inr (asked, is, e)) =
+        let found = given_query files query asked is in
+        in_query (content_of schema files) (content_of query files) r (found.0, found.1, names_lie graph asked (length found.0) r found.2 (halted (checked graph asked) r e))
+
+    by_graph : ((graph_at schema files ≡ Err (h.Refused r)) ⊎ ((graph : EdgeGraph) × (graph_at schema files ≡ Ok graph) × (next (query_at query files) (λ asked. halting (checked graph asked)) ≡ Err (h.Refused r))))
+        → NamesPart (of_role (content_of schema files) (content_of query files)) r
+    by_graph (inl e) = in_schema (content_of schema files) (content_of query files) r (refused_graph files schema r e)
+    by_graph (inr (graph, is, e)) = by_query graph (refused_next (query_at query files) _ (h.Refused r) e)
+
+placed : (asked : Option Asked) (files : List (List ℕ × List ℕ)) (r : Refusal) → Owes asked files (Err (h.Refused r)) → NamesPart (text_for asked files) r
+placed None files r e = absurd cc
+placed (Some (Asked.OfTranslate schema query)) files r (inl e) = by_translate schema query files r e
+placed (Some (Asked.OfTranslate schema query)) files r (inr (checked, e, other)) = absurd cc
+placed (Some (Asked.OfCheck schema)) files r (inl fault) = in_schema (content_of schema files) None r (refused_catalog files schema r fault)
+placed (Some (Asked.OfCheck schema)) files r (inr (catalog, e, other)) = absurd cc
+
+-- ---- what there is to say
+
+said_line : (asked : Option Asked) (files : List (List ℕ × List ℕ)) (said : Answer) → IsDue (Owes asked files) said → status_of said ≡ Refused → IsLineDue asked files (err_text said)
+said_line asked files (a.Done text) d e = absurd cc
+said_line asked files (a.Refused line) (r, d, l) e = record { refusal = r; due = d; is_line = l; in_text = placed asked files r d }
+said_line asked files a.Usage d e = absurd cc
+said_line asked files a.ReadFault d e = absurd cc
+said_line asked files a.NoMemory d e = absurd cc
+
+pub line_if : (asked : Option Asked) (files : Option (List (List ℕ × List ℕ))) (said : Answer) → IfSome files (λ told. IsDue (Owes asked told) said)
+    → status_of said ≡ Refused → IfSome files (λ told. IsLineDue asked told (err_text said))
+line_if asked None said d e = tt
+line_if asked (Some told) said d e = said_line asked told said d e
