@@ -1,0 +1,13 @@
+//! SQL texts judged by the rules on names and classes, and read as queries.
+#![tactic(auto)]
+
+mod judging;
+mod names;
+mod phases;
+mod queries;
+mod reach;
+mod tables;
+mod types;
+mod unions;
+
+pub use judging::judge_text;
