@@ -2,6 +2,7 @@
 #![tactic(auto)]
 
 mod judging;
+mod laws;
 mod names;
 mod phases;
 mod queries;
@@ -11,3 +12,4 @@ mod types;
 mod unions;
 
 pub use judging::judge_text;
+pub use laws::{faultless_is_sound, sound_is_faultless};
