@@ -1,0 +1,12 @@
+pub mod Lookups
+pub mod ScopeLemmas
+pub mod FaultSteps
+pub mod TypeSteps
+pub mod PhaseSteps
+pub mod MadeSelects
+pub mod Clean
+pub mod Typing
+pub mod Places
+pub mod Telling
+pub mod TellingSelects
+pub mod TellingTexts

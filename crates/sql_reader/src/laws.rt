@@ -1,0 +1,18 @@
+ghost use Rattle.std.specs.Prelude.{◌≡◌, None};
+ghost use Rattle.graph_ast.specs.declared.catalog.Catalog.{Catalog};
+ghost use Rattle.sql_algebra.specs.declared.text.SqlText.{SqlText as Text};
+ghost use Rattle.sql_algebra.specs.Soundness.{IsSound};
+ghost use Rattle.sql_reader.specs.Phases.{first_fault};
+ghost use Rattle.sql_reader.specs.Queries.{query_of};
+ghost use Rattle.sql_reader.specs.Shapes.{HasShape};
+
+/// A law: the query that a text without a fault writes down is sound in the catalog, if the text has the shape that the
+/// grammar gives: no literal is Null, and a list of IN or COALESCE has a member.
+pub fn faultless_is_sound()
+    ensures { (catalog : Catalog) (text : Text) → HasShape text → first_fault catalog text ≡ None → IsSound (query_of catalog text) catalog }
+{}
+
+/// A law: a text has no fault where the query that it writes down is sound in the catalog.
+pub fn sound_is_faultless()
+    ensures { (catalog : Catalog) (text : Text) → IsSound (query_of catalog text) catalog → first_fault catalog text ≡ None }
+{}

@@ -1,0 +1,15 @@
+//! SQL texts judged by the rules on names and classes, and read as queries.
+#![tactic(auto)]
+
+mod judging;
+mod laws;
+mod names;
+mod phases;
+mod queries;
+mod reach;
+mod tables;
+mod types;
+mod unions;
+
+pub use judging::judge_text;
+pub use laws::{faultless_is_sound, sound_is_faultless};
