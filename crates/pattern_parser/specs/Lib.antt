@@ -1,0 +1,6 @@
+pub mod Insides
+pub mod Patterns
+pub mod Tests
+pub mod Queries
+pub mod Outcomes
+pub mod Reading
