@@ -1,2 +1,6 @@
 pub mod Sure
 pub mod Whole
+pub mod Nesting
+pub mod Levels
+pub mod Listed
+pub mod Run

@@ -2,5 +2,14 @@
 #![tactic(auto)]
 
 mod conditions;
+mod edges;
 mod items;
+mod labels;
+mod parsing;
+mod paths;
+mod patterns;
 mod pieces;
+mod prefixes;
+mod queries;
+
+pub use parsing::{one_outcome, one_tree, parse_query};
