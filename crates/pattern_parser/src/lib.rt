@@ -11,5 +11,9 @@ mod patterns;
 mod pieces;
 mod prefixes;
 mod queries;
+#[cfg(test)]
+mod shown;
+#[cfg(test)]
+mod tests;
 
 pub use parsing::{one_outcome, one_tree, parse_query};

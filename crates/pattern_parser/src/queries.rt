@@ -12,7 +12,7 @@ use graph_ast::QueryTree;
 use std::alloc::Global;
 use token_grammar::Halt;
 use token_marks::Mark;
-use token_reading::{Tokens, expect, name, next_is, next_is_name};
+use token_reading::{Tokens, expect, name, next_is, next_is_name, skip_name};
 
 #[tactic(auto, unfolding(crate::specs::Queries::table))]
 fn table(alloc: Global, tokens: &mut Tokens<'_>, depth: u8) -> Result<QueryTree, Halt>
@@ -53,16 +53,16 @@ fn semicolon(tokens: &mut Tokens<'_>) -> Result<(), Halt>
 }
 
 #[tactic(auto, unfolding(crate::specs::Queries::query_end))]
-fn query_end(alloc: Global, tokens: &mut Tokens<'_>) -> Result<(), Halt>
+fn query_end(tokens: &mut Tokens<'_>) -> Result<(), Halt>
     ensures { Parses (reads flat query_end tokens.old) result tokens.new }
 {
     if next_is(tokens, Mark::As) {
         expect(tokens, Mark::As)?;
-        name(alloc, tokens)?;
+        skip_name(tokens)?;
         return semicolon(tokens);
     }
     if next_is_name(tokens) {
-        name(alloc, tokens)?;
+        skip_name(tokens)?;
         return semicolon(tokens);
     }
     semicolon(tokens)
@@ -78,6 +78,6 @@ pub(crate) fn query(alloc: Global, tokens: &mut Tokens<'_>) -> Result<QueryTree,
     expect(tokens, Mark::From)?;
     expect(tokens, Mark::GraphTable)?;
     let tree = graph_table(alloc, tokens, 64)?;
-    query_end(alloc, tokens)?;
+    query_end(tokens)?;
     Ok(tree)
 }
