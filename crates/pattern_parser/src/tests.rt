@@ -83,36 +83,44 @@ fn repeated(
     Ok(text)
 }
 
-// Whether the texts of the table, between what stands before and behind each, have the verdicts beside them.
-fn check_rows(
-    rt: &HostRuntime,
+// The texts of the table, between what stands before and behind each, whose verdicts are not those beside them.
+fn wrong_verdicts(
+    alloc: Global,
     front: &str,
     rows: &[(&str, &str)],
     back: &str,
-) -> Result<(), Fail> {
-    let alloc = rt.alloc();
+) -> Result<String, Fail> {
+    let mut wrong = String::new(alloc);
     for row in rows {
         let text = joined(alloc, front, row.0, back)?;
         let shown = verdict_of(alloc, text.as_str())?;
-        assert_eq!(rt; shown.as_str(), row.1, "at {}", row.0);
+        if shown.as_str() != row.1 {
+            wrong.push_str(row.0)?;
+            wrong.push_str(" is ")?;
+            wrong.push_str(shown.as_str())?;
+            wrong.push_str("; ")?;
+        }
     }
-    Ok(())
+    Ok(wrong)
 }
 
-// Whether the texts of the table have the trees beside them.
-fn check_trees(
-    rt: &HostRuntime,
+// The trees that texts of the table have, where they are not those beside them.
+fn wrong_trees(
+    alloc: Global,
     front: &str,
     rows: &[(&str, &str)],
     back: &str,
-) -> Result<(), Fail> {
-    let alloc = rt.alloc();
+) -> Result<String, Fail> {
+    let mut wrong = String::new(alloc);
     for row in rows {
         let text = joined(alloc, front, row.0, back)?;
         let shown = tree_of(alloc, text.as_str())?;
-        assert_eq!(rt; shown.as_str(), row.1, "at {}", row.0);
+        if shown.as_str() != row.1 {
+            wrong.push_str(shown.as_str())?;
+            wrong.push_str("; ")?;
+        }
     }
-    Ok(())
+    Ok(wrong)
 }
 
 // Whole texts: the end, the frame, and the first token that no text goes on with.
@@ -146,7 +154,9 @@ static WHOLE_TEXTS: [(&str, &str); 25] = [
 
 #[test]
 fn whole_texts_are_read_or_refused(rt: HostRuntime) -> Result<(), Fail> {
-    check_rows(&rt, "", &WHOLE_TEXTS, "")
+    let wrong = wrong_verdicts(rt.alloc(), "", &WHOLE_TEXTS, "")?;
+    assert_eq!(rt; wrong.as_str(), "");
+    Ok(())
 }
 
 // All edge forms, and what is none.
@@ -180,7 +190,9 @@ static EDGE_TEXTS: [(&str, &str); 25] = [
 
 #[test]
 fn edges_are_read_or_refused(rt: HostRuntime) -> Result<(), Fail> {
-    check_rows(&rt, FRONT, &EDGE_TEXTS, " COLUMNS (1 AS c))")
+    let wrong = wrong_verdicts(rt.alloc(), FRONT, &EDGE_TEXTS, " COLUMNS (1 AS c))")?;
+    assert_eq!(rt; wrong.as_str(), "");
+    Ok(())
 }
 
 // All quantifiers, behind an edge, a part and a vertex.
@@ -214,7 +226,9 @@ static QUANTIFIER_TEXTS: [(&str, &str); 25] = [
 
 #[test]
 fn quantifiers_are_read_or_refused(rt: HostRuntime) -> Result<(), Fail> {
-    check_rows(&rt, FRONT, &QUANTIFIER_TEXTS, " COLUMNS (1 AS c))")
+    let wrong = wrong_verdicts(rt.alloc(), FRONT, &QUANTIFIER_TEXTS, " COLUMNS (1 AS c))")?;
+    assert_eq!(rt; wrong.as_str(), "");
+    Ok(())
 }
 
 // Prefixes and path variables.
@@ -248,7 +262,9 @@ static PREFIX_TEXTS: [(&str, &str); 25] = [
 
 #[test]
 fn prefixes_are_read_or_refused(rt: HostRuntime) -> Result<(), Fail> {
-    check_rows(&rt, FRONT, &PREFIX_TEXTS, " COLUMNS (1 AS c))")
+    let wrong = wrong_verdicts(rt.alloc(), FRONT, &PREFIX_TEXTS, " COLUMNS (1 AS c))")?;
+    assert_eq!(rt; wrong.as_str(), "");
+    Ok(())
 }
 
 // Vertices, parts, sequences and unions.
@@ -282,7 +298,9 @@ static PATTERN_TEXTS: [(&str, &str); 25] = [
 
 #[test]
 fn patterns_are_read_or_refused(rt: HostRuntime) -> Result<(), Fail> {
-    check_rows(&rt, FRONT, &PATTERN_TEXTS, " COLUMNS (1 AS c))")
+    let wrong = wrong_verdicts(rt.alloc(), FRONT, &PATTERN_TEXTS, " COLUMNS (1 AS c))")?;
+    assert_eq!(rt; wrong.as_str(), "");
+    Ok(())
 }
 
 // Label expressions.
@@ -315,7 +333,9 @@ static LABEL_TEXTS: [(&str, &str); 24] = [
 
 #[test]
 fn labels_are_read_or_refused(rt: HostRuntime) -> Result<(), Fail> {
-    check_rows(&rt, FRONT, &LABEL_TEXTS, " COLUMNS (1 AS c))")
+    let wrong = wrong_verdicts(rt.alloc(), FRONT, &LABEL_TEXTS, " COLUMNS (1 AS c))")?;
+    assert_eq!(rt; wrong.as_str(), "");
+    Ok(())
 }
 
 // Words that are names too.
@@ -348,7 +368,9 @@ static NAME_TEXTS: [(&str, &str); 24] = [
 
 #[test]
 fn words_as_names_are_read_or_refused(rt: HostRuntime) -> Result<(), Fail> {
-    check_rows(&rt, FRONT, &NAME_TEXTS, "")
+    let wrong = wrong_verdicts(rt.alloc(), FRONT, &NAME_TEXTS, "")?;
+    assert_eq!(rt; wrong.as_str(), "");
+    Ok(())
 }
 
 // Predicates on elements, and dates.
@@ -382,7 +404,9 @@ static PREDICATE_TEXTS: [(&str, &str); 25] = [
 
 #[test]
 fn element_predicates_are_read_or_refused(rt: HostRuntime) -> Result<(), Fail> {
-    check_rows(&rt, "SELECT * FROM GRAPH_TABLE (g MATCH (x) WHERE ", &PREDICATE_TEXTS, " COLUMNS (1 AS c))")
+    let wrong = wrong_verdicts(rt.alloc(), "SELECT * FROM GRAPH_TABLE (g MATCH (x) WHERE ", &PREDICATE_TEXTS, " COLUMNS (1 AS c))")?;
+    assert_eq!(rt; wrong.as_str(), "");
+    Ok(())
 }
 
 // Conditions.
@@ -416,7 +440,9 @@ static CONDITION_TEXTS: [(&str, &str); 25] = [
 
 #[test]
 fn conditions_are_read_or_refused(rt: HostRuntime) -> Result<(), Fail> {
-    check_rows(&rt, "SELECT * FROM GRAPH_TABLE (g MATCH (x) WHERE ", &CONDITION_TEXTS, " COLUMNS (1 AS c))")
+    let wrong = wrong_verdicts(rt.alloc(), "SELECT * FROM GRAPH_TABLE (g MATCH (x) WHERE ", &CONDITION_TEXTS, " COLUMNS (1 AS c))")?;
+    assert_eq!(rt; wrong.as_str(), "");
+    Ok(())
 }
 
 // Items.
@@ -450,7 +476,9 @@ static ITEM_TEXTS: [(&str, &str); 25] = [
 
 #[test]
 fn items_are_read_or_refused(rt: HostRuntime) -> Result<(), Fail> {
-    check_rows(&rt, FRONT, &ITEM_TEXTS, "")
+    let wrong = wrong_verdicts(rt.alloc(), FRONT, &ITEM_TEXTS, "")?;
+    assert_eq!(rt; wrong.as_str(), "");
+    Ok(())
 }
 
 // What later rules refuse, and the first token that no text goes on with.
@@ -484,7 +512,9 @@ static OTHER_TEXTS: [(&str, &str); 25] = [
 
 #[test]
 fn other_texts_are_read_or_refused(rt: HostRuntime) -> Result<(), Fail> {
-    check_rows(&rt, FRONT, &OTHER_TEXTS, "")
+    let wrong = wrong_verdicts(rt.alloc(), FRONT, &OTHER_TEXTS, "")?;
+    assert_eq!(rt; wrong.as_str(), "");
+    Ok(())
 }
 
 #[test]
@@ -599,7 +629,9 @@ static PATTERN_TREES: [(&str, &str); 12] = [
 
 #[test]
 fn trees_of_patterns(rt: HostRuntime) -> Result<(), Fail> {
-    check_trees(&rt, FRONT, &PATTERN_TREES, "")
+    let wrong = wrong_trees(rt.alloc(), FRONT, &PATTERN_TREES, "")?;
+    assert_eq!(rt; wrong.as_str(), "");
+    Ok(())
 }
 
 static CONDITION_TREES: [(&str, &str); 10] = [
@@ -617,7 +649,9 @@ static CONDITION_TREES: [(&str, &str); 10] = [
 
 #[test]
 fn trees_of_conditions(rt: HostRuntime) -> Result<(), Fail> {
-    check_trees(&rt, "SELECT * FROM GRAPH_TABLE (g MATCH (x) WHERE ", &CONDITION_TREES, " COLUMNS (1))")
+    let wrong = wrong_trees(rt.alloc(), "SELECT * FROM GRAPH_TABLE (g MATCH (x) WHERE ", &CONDITION_TREES, " COLUMNS (1))")?;
+    assert_eq!(rt; wrong.as_str(), "");
+    Ok(())
 }
 
 static ITEM_TREES: [(&str, &str); 3] = [
@@ -628,5 +662,7 @@ static ITEM_TREES: [(&str, &str); 3] = [
 
 #[test]
 fn trees_of_items(rt: HostRuntime) -> Result<(), Fail> {
-    check_trees(&rt, "SELECT * FROM GRAPH_TABLE (g MATCH (x) COLUMNS (", &ITEM_TREES, "))")
+    let wrong = wrong_trees(rt.alloc(), "SELECT * FROM GRAPH_TABLE (g MATCH (x) COLUMNS (", &ITEM_TREES, "))")?;
+    assert_eq!(rt; wrong.as_str(), "");
+    Ok(())
 }
