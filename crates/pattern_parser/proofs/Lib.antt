@@ -4,3 +4,5 @@ pub mod Nesting
 pub mod Levels
 pub mod Listed
 pub mod Run
+pub mod Ranges
+pub mod SpanLists
