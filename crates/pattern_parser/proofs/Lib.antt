@@ -6,3 +6,5 @@ pub mod Listed
 pub mod Run
 pub mod Ranges
 pub mod SpanLists
+pub mod PatternSpans
+pub mod TreeIn
