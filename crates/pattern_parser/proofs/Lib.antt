@@ -8,3 +8,6 @@ pub mod Ranges
 pub mod SpanLists
 pub mod PatternSpans
 pub mod TreeIn
+pub mod PathSpans
+pub mod TestSpans
+pub mod QuerySpans

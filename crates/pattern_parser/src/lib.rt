@@ -16,4 +16,4 @@ mod shown;
 #[cfg(test)]
 mod tests;
 
-pub use parsing::{one_outcome, one_tree, parse_query};
+pub use parsing::{one_outcome, one_tree, parse_query, tree_in_text};

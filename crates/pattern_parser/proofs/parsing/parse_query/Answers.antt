@@ -1,5 +1,6 @@
 use Rattle.std.proofs.Common.{◌-◌, ◌≤◌, length, Ok, Err, refl, sym, subst, arith}
 use Rattle.pattern_parser.proofs.Whole.{ok, shallow, left_short, first, span_in_text, one_outcome}
+use Rattle.pattern_parser.proofs.QuerySpans.{spans_lie}
 use Rattle.sql_lexer.specs.Spans.{LiesIn}
 use Rattle.pattern_parser.proofs.parsing.parse_query.Goals as goal
 
@@ -17,6 +18,9 @@ returns-in-Ok-clause-shallow c = shallow c.args.tokens.now c.new-left.result c.n
 pub returns-in-Ok-clause-due : goal.returns-in-Ok-clause-due
 returns-in-Ok-clause-due c = λ due is. one_outcome c.args.tokens.now c.args.end due (Ok c.in-Ok.tree) is
     (ok c.args.tokens.now c.new-left.result c.new-left.ensures c.in-Ok.tree c.whole.new.tokens c.in-Ok.ensures, shallow c.args.tokens.now c.new-left.result c.new-left.ensures c.in-Ok.tree c.whole.new.tokens c.in-Ok.ensures)
+
+pub returns-in-Ok-clause-spans : goal.returns-in-Ok-clause-spans
+returns-in-Ok-clause-spans c = λ h. spans_lie c.args.end c.args.tokens.now c.in-Ok.tree h (ok c.args.tokens.now c.new-left.result c.new-left.ensures c.in-Ok.tree c.whole.new.tokens c.in-Ok.ensures)
 
 is_first : goal.returns-in-Err-Refused-clause-refused
 is_first c =
