@@ -4,3 +4,4 @@ pub mod Tests
 pub mod Queries
 pub mod Outcomes
 pub mod Reading
+pub mod Conditions

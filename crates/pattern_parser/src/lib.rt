@@ -3,4 +3,6 @@
 
 mod conditions;
 mod items;
+mod leaves;
 mod pieces;
+mod predicates;
