@@ -1,6 +1,13 @@
 pub mod Sure
 pub mod Whole
+pub mod Nesting
+pub mod Levels
+pub mod Listed
+pub mod Run
+pub mod Ranges
+pub mod SpanLists
 pub mod Nests
 pub mod Puts
 pub mod TwoOrMore
 pub mod GatheredLists
+pub mod Heads

@@ -50,7 +50,7 @@ fn next_is_predicate_tail(tokens: &Tokens<'_>) -> bool
 }
 
 // Whether something that makes a test of an operand is next.
-#[tactic(auto, unfolding(condition_grammar::specs::Conditions::test_tail))]
+#[tactic(auto, unfolding(condition_grammar::specs::Conditions::test_tail, condition_grammar::specs::Conditions::predicate_tail, condition_grammar::specs::Conditions::comparing, condition_grammar::specs::Conditions::including, condition_grammar::specs::Conditions::comparison))]
 fn next_is_test_tail(tokens: &Tokens<'_>) -> bool
     ensures { result ≡ heads (on class (first test_tail)) tokens.now }
 {
@@ -184,11 +184,7 @@ fn operands(
 
 // The operands of COALESCE, two or more.
 #[cycle(conditions)]
-fn members(
-    alloc: Global,
-    tokens: &mut Tokens<'_>,
-    depth: u8,
-) -> Result<Gathered<PropertyRef>, Halt>
+fn members(alloc: Global, tokens: &mut Tokens<'_>, depth: u8) -> Result<Gathered<PropertyRef>, Halt>
     ensures { ParsesFrom gathered_of (reads (at_depth depth) (two_or_more operand) tokens.old) result tokens.new }
 {
     let first = operand(alloc, tokens, depth)?;
@@ -278,12 +274,7 @@ fn test_tail(
 
 // An operand, and what makes a test of it, if it stands there.
 #[cycle(conditions)]
-fn test_end(
-    alloc: Global,
-    tokens: &mut Tokens<'_>,
-    depth: u8,
-    operand: Tree,
-) -> Result<Tree, Halt>
+fn test_end(alloc: Global, tokens: &mut Tokens<'_>, depth: u8, operand: Tree) -> Result<Tree, Halt>
     ensures { Parses (mapped_p (λ tail. unless_none tail operand) (reads (at_depth depth) (opt test_tail)) tokens.old) result tokens.new }
 {
     if !next_is_test_tail(tokens) {

@@ -9,11 +9,7 @@ use token_grammar::Halt;
 use token_reading::Tokens;
 
 /// The items of COLUMNS, in parentheses.
-pub(crate) fn items(
-    alloc: Global,
-    tokens: &mut Tokens<'_>,
-    depth: u8,
-) -> Result<List<Item>, Halt>
+pub(crate) fn items(alloc: Global, tokens: &mut Tokens<'_>, depth: u8) -> Result<List<Item>, Halt>
     ensures { Parses (reads (at_depth depth) (parens Own.items) tokens.old) result tokens.new }
 {
     // TO BE WRITTEN: it answers want of memory, which its clause allows.

@@ -23,11 +23,7 @@ use token_reading::{Tokens, expect, name, next_is};
 pub(crate) type Tree = Spanned<PropertyRef>;
 
 /// The leaf of a property.
-pub(crate) fn leaf_node(
-    alloc: Global,
-    variable: Named,
-    property: Named,
-) -> Result<Tree, NoMemory>
+pub(crate) fn leaf_node(alloc: Global, variable: Named, property: Named) -> Result<Tree, NoMemory>
     ensures { IfOk result (λ c. c ≡ leaf_node variable property) }
 {
     let span = reach(variable.span, property.span);

@@ -2,7 +2,20 @@
 #![tactic(auto)]
 
 mod conditions;
+mod edges;
 mod items;
+mod labels;
 mod leaves;
+mod parsing;
+mod paths;
+mod patterns;
 mod pieces;
 mod predicates;
+mod prefixes;
+mod queries;
+#[cfg(test)]
+mod shown;
+#[cfg(test)]
+mod tests;
+
+pub use parsing::{one_outcome, one_tree, parse_query};

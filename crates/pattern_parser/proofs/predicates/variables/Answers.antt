@@ -11,5 +11,5 @@ pub returns : goal.returns
 returns c =
     let all = c.in_ok-push-2.ensures.ok ∙ ap (λ l. l ++ c.in_ok-second.second ∷ []) (c.in_ok-push.ensures.ok ∙ ap (λ l. l ++ c.in_ok-first.first ∷ []) c.new-all.ensures) in
     let e = two_from (is_mark m.Comma) span_of (one_p (on class is_name) named) c.args.tokens.now c.name.new.tokens c.expect.new.tokens c.name-2.new.tokens
-        c.in_ok-first.first c.in_ok-second.second c.in_ok-expect.field-0 c.push-2.new.self c.in_ok-first.ensures c.in_ok-expect.ensures c.in_ok-second.ensures all in
+    c.in_ok-first.first c.in_ok-second.second c.in_ok-expect.field-0 c.push-2.new.self c.in_ok-first.ensures c.in_ok-expect.ensures c.in_ok-second.ensures all in
     subst (λ a. Parses a c.more_names.result c.more_names.new.tokens) e c.more_names.ensures
