@@ -58,19 +58,19 @@ module _ (n : ℕ) (ts : List Token) where
   pub group_alone : heads (on class (first after_name)) ts ≡ false → reads (at_depth n) (either after_name after_group_word) ts ≡ reads (at_depth n) after_group_word ts
   group_alone h = ap (λ b. choose b (reads (at_depth n) after_name ts) (reads (at_depth n) after_group_word ts)) h
 
+abbrev pub unnamed_test : Production Tree
+unnamed_test = mapped (λ d. unless_none d.1 d.0) (seq unnamed_operand (opt test_tail))
+
+abbrev pub plain_test : (ℕ → Bool) → Production Tree
+plain_test plain = mapped put_name (seq (one plain named) after_name)
+
+abbrev pub word_test : Production Tree
+word_test = either date_test group_word_test
+
 -- a test, where the plain names are those for which the test says so
 module _ (plain : ℕ → Bool) (n : ℕ) (ts : List Token) where
-  abbrev pub unnamed_test : Production Tree
-  unnamed_test = mapped (λ d. unless_none d.1 d.0) (seq unnamed_operand (opt test_tail))
-
-  abbrev pub plain_test : Production Tree
-  plain_test = mapped put_name (seq (one plain named) after_name)
-
-  abbrev word_test : Production Tree
-  word_test = either date_test group_word_test
-
   abbrev named_test : Production Tree
-  named_test = either plain_test word_test
+  named_test = either (plain_test plain) word_test
 
   pub by_unnamed : heads (on class (first unnamed_operand)) ts ≡ true → reads (at_depth n) (test_from plain) ts ≡ reads (at_depth n) unnamed_test ts
   unfolding test_from unnamed_operand g.literals g.coalesce g.parens
@@ -80,11 +80,11 @@ module _ (plain : ℕ → Bool) (n : ℕ) (ts : List Token) where
   unfolding test_from unnamed_operand g.literals g.coalesce g.parens
   no_unnamed h = ap (λ b. choose b (reads (at_depth n) unnamed_test ts) (reads (at_depth n) named_test ts)) h
 
-  pub by_plain : heads (on class (first unnamed_operand)) ts ≡ false → heads (on class plain) ts ≡ true → reads (at_depth n) (test_from plain) ts ≡ reads (at_depth n) plain_test ts
-  by_plain h k = no_unnamed h ∙ ap (λ b. choose b (reads (at_depth n) plain_test ts) (reads (at_depth n) word_test ts)) k
+  pub by_plain : heads (on class (first unnamed_operand)) ts ≡ false → heads (on class plain) ts ≡ true → reads (at_depth n) (test_from plain) ts ≡ reads (at_depth n) (plain_test plain) ts
+  by_plain h k = no_unnamed h ∙ ap (λ b. choose b (reads (at_depth n) (plain_test plain) ts) (reads (at_depth n) word_test ts)) k
 
   no_plain : heads (on class (first unnamed_operand)) ts ≡ false → heads (on class plain) ts ≡ false → reads (at_depth n) (test_from plain) ts ≡ reads (at_depth n) word_test ts
-  no_plain h k = no_unnamed h ∙ ap (λ b. choose b (reads (at_depth n) plain_test ts) (reads (at_depth n) word_test ts)) k
+  no_plain h k = no_unnamed h ∙ ap (λ b. choose b (reads (at_depth n) (plain_test plain) ts) (reads (at_depth n) word_test ts)) k
 
   pub by_date : heads (on class (first unnamed_operand)) ts ≡ false → heads (on class plain) ts ≡ false → heads (is_mark m.Date) ts ≡ true → reads (at_depth n) (test_from plain) ts ≡ reads (at_depth n) date_test ts
   by_date h k j = no_plain h k ∙ ap (λ b. choose b (reads (at_depth n) date_test ts) (reads (at_depth n) group_word_test ts)) j

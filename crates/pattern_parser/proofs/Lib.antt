@@ -11,3 +11,4 @@ pub mod Puts
 pub mod TwoOrMore
 pub mod GatheredLists
 pub mod Heads
+pub mod Ungathered

@@ -6,3 +6,4 @@ pub mod Outcomes
 pub mod Reading
 pub mod TreeSpans
 pub mod Conditions
+pub mod Items

@@ -245,7 +245,7 @@ fn predicate_tail(
 
 // What makes a test of an operand.
 #[cycle(conditions)]
-#[tactic(auto, unfolding(condition_grammar::specs::Conditions::test_tail, condition_grammar::specs::Conditions::truth_test, condition_grammar::specs::Conditions::after_is, condition_grammar::specs::Conditions::truth_word))]
+#[tactic(auto, unfolding(condition_grammar::specs::Conditions::test_tail, condition_grammar::specs::Conditions::predicate_tail, condition_grammar::specs::Conditions::comparing, condition_grammar::specs::Conditions::including, condition_grammar::specs::Conditions::comparison, condition_grammar::specs::Conditions::truth_test, condition_grammar::specs::Conditions::after_is, condition_grammar::specs::Conditions::truth_word))]
 fn test_tail(
     alloc: Global,
     tokens: &mut Tokens<'_>,
