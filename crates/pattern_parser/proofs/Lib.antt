@@ -12,3 +12,5 @@ pub mod TwoOrMore
 pub mod GatheredLists
 pub mod Heads
 pub mod Ungathered
+pub mod PatternSpans
+pub mod TreeIn

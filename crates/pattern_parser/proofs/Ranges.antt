@@ -6,7 +6,7 @@ use Rattle.sql_lexer.specs.declared.token.Token.{Token}
 use Rattle.sql_lexer.specs.Texts.{AreInOrder}
 use Rattle.token_grammar.specs.Grammar.{Grammar, many_tokens}
 use Rattle.token_grammar.specs.Rules.{grammar, within}
-use Rattle.token_grammar.specs.Rules.Rule.{one, mapped, seq, either, opt, many, nest}
+use Rattle.token_grammar.specs.Rules.Rule.{one, mapped, seq, either, opt, many, nest, fork}
 use Rattle.token_reading.specs.Tokens.{class, span_of}
 use Rattle.condition_grammar.specs.Conditions.{Inside}
 use Rattle.pattern_parser.specs.Insides.{Own, HeldInside, Production}
@@ -70,6 +70,15 @@ text_of n r = grammar class inside n r
 abbrev pub Given : {V : Type 0} → Grammar Token V → Holds V → Type 0
 Given g P = (d : g.Phrase) (at end : ℕ) → AreInOrder at end (g.tokens d) → P at end (g.value d)
 
+-- brackets, and what stands between them
+pub record Bracketed {V : Type 0} (P : Holds V) (at end : ℕ) (d : Span × V × Span) : Type 0 where
+  pub left : ℕ
+  pub right : ℕ
+  pub opening : In at left d.0
+  pub between : left ≤ right
+  pub held : P left right d.1
+  pub closing : In right end d.2
+
 -- where so many brackets may be open
 pub record Gives (n : ℕ) {V : Type 0} (r : Production V) (P : Holds V) : Type 0 where
   pub holds : Given (text_of n r) P
@@ -114,21 +123,14 @@ module _ (n : ℕ) where
     by : Given (text_of n (many r)) (Chain P)
     by [] at end i = tt
     by (d ∷ ds) at end i =
-        let c = cut at end ((text_of n r).tokens d) (many_tokens ((text_of n r).tokens) ds) i in (
+        let c = cut at end ((text_of n r).tokens d) (many_tokens ((text_of n r).tokens) ds) i in
+        (
           c.middle,
           not_before at c.middle ((text_of n r).tokens d) c.left,
           not_before c.middle end (many_tokens ((text_of n r).tokens) ds) c.right,
           g.holds d at c.middle c.left,
           by ds c.middle end c.right,
         )
-
-  -- brackets, and what stands between them
-  pub record Bracketed {V : Type 0} (P : Holds V) (at end : ℕ) (d : Span × V × Span) : Type 0 where
-    pub left : ℕ
-    pub right : ℕ
-    pub opening : In at left d.0
-    pub held : P left right d.1
-    pub closing : In right end d.2
 
   -- what stands between brackets with these, where it has such values
   pub nest_gives : {o c : ℕ} {k : Inside Own} {P : Holds (HeldInside k)} → Given (within class inside n k) P → Gives n (nest span_of o c k) (Bracketed P)
@@ -140,6 +142,33 @@ module _ (n : ℕ) where
           left = d.0.0.span.to;
           right = r.middle;
           opening = record { from = a; ordered = omega (arith, b); to = omega arith };
+          between = not_before d.0.0.span.to r.middle ((within class inside n k).tokens d.1.0) r.left;
           held = g d.1.0 d.0.0.span.to r.middle r.left;
           closing = record { from = r.right.0; ordered = omega (arith, r.right.1); to = r.right.2 };
         }
+
+  -- the two ways of a fork
+  pub fork_gives : {o c : ℕ} {f : ℕ → Bool} {k j : Inside Own} {B V : Type 0} {r : Production B} {one_way : Span → HeldInside k × (Span × B) → V} {other_way : Span → HeldInside j × Span → V}
+      {R : Holds B} {W : Holds V} (P : Holds (HeldInside k)) (Q : Holds (HeldInside j)) →
+      Given (within class inside n k) P → Gives n r R → Given (within class inside n j) Q →
+      ((at x y z end : ℕ) (first : Span) (d : HeldInside k × (Span × B)) → In at x first → x ≤ y → P x y d.0 → In y z d.1.0 → z ≤ end → R z end d.1.1 → W at end (one_way first d)) →
+      ((at x y end : ℕ) (first : Span) (d : HeldInside j × Span) → In at x first → x ≤ y → Q x y d.0 → In y end d.1 → W at end (other_way first d)) →
+      Gives n (fork span_of o c f k r one_way j other_way) W
+  fork_gives {o} {c} {f} {k} {j} {B} {V} {r} {one_way} {other_way} {R} {W} P Q g h i one_holds other_holds = record { holds = by } where
+    by : Given (text_of n (fork span_of o c f k r one_way j other_way)) W
+    by (first, inl d) at end (a, b, l) =
+        let q = cut first.0.span.to end ((within class inside n k).tokens d.0) (d.1.0.0 ∷ (text_of n r).tokens d.1.1) l in
+        one_holds at first.0.span.to q.middle d.1.0.0.span.to end first.0.span ((within class inside n k).value d.0, (d.1.0.0.span, (text_of n r).value d.1.1))
+        (record { from = a; ordered = omega (arith, b); to = omega arith })
+        (not_before first.0.span.to q.middle ((within class inside n k).tokens d.0) q.left)
+        (g d.0 first.0.span.to q.middle q.left)
+        (record { from = q.right.0; ordered = omega (arith, q.right.1); to = omega arith })
+        (not_before d.1.0.0.span.to end ((text_of n r).tokens d.1.1) q.right.2)
+        (h.holds d.1.1 d.1.0.0.span.to end q.right.2)
+    by (first, inr d) at end (a, b, l) =
+        let q = cut first.0.span.to end ((within class inside n j).tokens d.0) (d.1.0 ∷ []) l in
+        other_holds at first.0.span.to q.middle end first.0.span ((within class inside n j).value d.0, d.1.0.span)
+        (record { from = a; ordered = omega (arith, b); to = omega arith })
+        (not_before first.0.span.to q.middle ((within class inside n j).tokens d.0) q.left)
+        (i d.0 first.0.span.to q.middle q.left)
+        (record { from = q.right.0; ordered = omega (arith, q.right.1); to = q.right.2 })

@@ -47,7 +47,7 @@ chain_all f at end [] h = tt
 chain_all f at end (x ∷ xs) (middle, lower, upper, first, rest) =
     all_append at end (f x) (flat_map f xs) (all_wider (omega arith) upper (f x) first) (all_wider lower (omega arith) (flat_map f xs) (chain_all f middle end xs rest))
 
-joined_map : {V : Type 0} (f : V → List Span) (xs : List V) → flat_map f xs ≡ joined (map f xs)
+pub joined_map : {V : Type 0} (f : V → List Span) (xs : List V) → flat_map f xs ≡ joined (map f xs)
 joined_map f [] = refl
 joined_map f (x ∷ xs) = ap (λ spans. f x ++ spans) (joined_map f xs)
 

@@ -61,7 +61,7 @@ label_and-returns-in_err-all t c =
     let first = c.in_ok-first.first in
     let one : c.push.new.self ≡ first ∷ [] = c.in_ok-push.ensures.ok ∙ ap (λ l. l ++ first ∷ []) c.new-one.ensures in
     let e : Parses (gathered (is_mark m.Ampersand) (after_p (is_mark m.Ampersand) span_of (reads (at_depth c.args.depth) label_not)) pushed (length c.label_not.new.tokens) (first ∷ []) c.label_not.new.tokens) (Err c.in_err-all.field-0.0) c.more_ands.new.tokens =
-    subst (λ l. Parses (gathered (is_mark m.Ampersand) (after_p (is_mark m.Ampersand) span_of (reads (at_depth c.args.depth) label_not)) pushed (length c.label_not.new.tokens) l c.label_not.new.tokens) (Err c.in_err-all.field-0.0) c.more_ands.new.tokens) one c.in_err-all.ensures in
+        subst (λ l. Parses (gathered (is_mark m.Ampersand) (after_p (is_mark m.Ampersand) span_of (reads (at_depth c.args.depth) label_not)) pushed (length c.label_not.new.tokens) l c.label_not.new.tokens) (Err c.in_err-all.field-0.0) c.more_ands.new.tokens) one c.in_err-all.ensures in
     let g = listed_halt (is_mark m.Ampersand) (after_p (is_mark m.Ampersand) span_of (reads (at_depth c.args.depth) label_not)) (reads (at_depth c.args.depth) label_not) and_of And (λ a k ks. refl) c.args.tokens.now c.label_not.new.tokens c.more_ands.new.tokens first c.in_ok-first.ensures c.in_err-all.field-0.0 e in
     first_of (search rules, grind (arith, common_steps))
 
@@ -71,7 +71,7 @@ label_and-returns t c =
     let first = c.in_ok-first.first in
     let one : c.push.new.self ≡ first ∷ [] = c.in_ok-push.ensures.ok ∙ ap (λ l. l ++ first ∷ []) c.new-one.ensures in
     let e : gathered (is_mark m.Ampersand) (after_p (is_mark m.Ampersand) span_of (reads (at_depth c.args.depth) label_not)) pushed (length c.label_not.new.tokens) (first ∷ []) c.label_not.new.tokens ≡ got c.in_ok-all.all c.more_ands.new.tokens =
-    subst (λ l. gathered (is_mark m.Ampersand) (after_p (is_mark m.Ampersand) span_of (reads (at_depth c.args.depth) label_not)) pushed (length c.label_not.new.tokens) l c.label_not.new.tokens ≡ got c.in_ok-all.all c.more_ands.new.tokens) one c.in_ok-all.ensures in
+        subst (λ l. gathered (is_mark m.Ampersand) (after_p (is_mark m.Ampersand) span_of (reads (at_depth c.args.depth) label_not)) pushed (length c.label_not.new.tokens) l c.label_not.new.tokens ≡ got c.in_ok-all.all c.more_ands.new.tokens) one c.in_ok-all.ensures in
     listed_all (is_mark m.Ampersand) (after_p (is_mark m.Ampersand) span_of (reads (at_depth c.args.depth) label_not)) (reads (at_depth c.args.depth) label_not) and_of And (λ a k ks. refl) c.args.tokens.now c.label_not.new.tokens c.more_ands.new.tokens first c.in_ok-all.all c.in_ok-first.ensures (sym c.next_is.ensures ∙ c.if-not-next_is.false) e
 
 pub more_ors-returns-in_err-item : goal.more_ors-returns-in_err-item
@@ -98,7 +98,7 @@ label_union-returns-in_err-all t c =
     let first = c.in_ok-first.first in
     let one : c.push.new.self ≡ first ∷ [] = c.in_ok-push.ensures.ok ∙ ap (λ l. l ++ first ∷ []) c.new-one.ensures in
     let e : Parses (gathered (is_mark m.VerticalBar) (after_p (is_mark m.VerticalBar) span_of (reads (at_depth c.args.depth) label_and)) pushed (length c.label_and.new.tokens) (first ∷ []) c.label_and.new.tokens) (Err c.in_err-all.field-0.0) c.more_ors.new.tokens =
-    subst (λ l. Parses (gathered (is_mark m.VerticalBar) (after_p (is_mark m.VerticalBar) span_of (reads (at_depth c.args.depth) label_and)) pushed (length c.label_and.new.tokens) l c.label_and.new.tokens) (Err c.in_err-all.field-0.0) c.more_ors.new.tokens) one c.in_err-all.ensures in
+        subst (λ l. Parses (gathered (is_mark m.VerticalBar) (after_p (is_mark m.VerticalBar) span_of (reads (at_depth c.args.depth) label_and)) pushed (length c.label_and.new.tokens) l c.label_and.new.tokens) (Err c.in_err-all.field-0.0) c.more_ors.new.tokens) one c.in_err-all.ensures in
     let g = listed_halt (is_mark m.VerticalBar) (after_p (is_mark m.VerticalBar) span_of (reads (at_depth c.args.depth) label_and)) (reads (at_depth c.args.depth) label_and) or_of Or (λ a k ks. refl) c.args.tokens.now c.label_and.new.tokens c.more_ors.new.tokens first c.in_ok-first.ensures c.in_err-all.field-0.0 e in
     first_of (search rules, grind (arith, common_steps))
 
@@ -108,5 +108,5 @@ label_union-returns t c =
     let first = c.in_ok-first.first in
     let one : c.push.new.self ≡ first ∷ [] = c.in_ok-push.ensures.ok ∙ ap (λ l. l ++ first ∷ []) c.new-one.ensures in
     let e : gathered (is_mark m.VerticalBar) (after_p (is_mark m.VerticalBar) span_of (reads (at_depth c.args.depth) label_and)) pushed (length c.label_and.new.tokens) (first ∷ []) c.label_and.new.tokens ≡ got c.in_ok-all.all c.more_ors.new.tokens =
-    subst (λ l. gathered (is_mark m.VerticalBar) (after_p (is_mark m.VerticalBar) span_of (reads (at_depth c.args.depth) label_and)) pushed (length c.label_and.new.tokens) l c.label_and.new.tokens ≡ got c.in_ok-all.all c.more_ors.new.tokens) one c.in_ok-all.ensures in
+        subst (λ l. gathered (is_mark m.VerticalBar) (after_p (is_mark m.VerticalBar) span_of (reads (at_depth c.args.depth) label_and)) pushed (length c.label_and.new.tokens) l c.label_and.new.tokens ≡ got c.in_ok-all.all c.more_ors.new.tokens) one c.in_ok-all.ensures in
     listed_all (is_mark m.VerticalBar) (after_p (is_mark m.VerticalBar) span_of (reads (at_depth c.args.depth) label_and)) (reads (at_depth c.args.depth) label_and) or_of Or (λ a k ks. refl) c.args.tokens.now c.label_and.new.tokens c.more_ors.new.tokens first c.in_ok-all.all c.in_ok-first.ensures (sym c.next_is.ensures ∙ c.if-not-next_is.false) e
