@@ -6,6 +6,12 @@ pub mod Listed
 pub mod Run
 pub mod Ranges
 pub mod SpanLists
+pub mod Nests
+pub mod Puts
+pub mod TwoOrMore
+pub mod GatheredLists
+pub mod Heads
+pub mod Ungathered
 pub mod PatternSpans
 pub mod TreeIn
 pub mod PathSpans

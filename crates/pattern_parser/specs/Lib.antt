@@ -5,3 +5,5 @@ pub mod Queries
 pub mod Outcomes
 pub mod Reading
 pub mod TreeSpans
+pub mod Conditions
+pub mod Items

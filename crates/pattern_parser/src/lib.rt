@@ -5,10 +5,12 @@ mod conditions;
 mod edges;
 mod items;
 mod labels;
+mod leaves;
 mod parsing;
 mod paths;
 mod patterns;
 mod pieces;
+mod predicates;
 mod prefixes;
 mod queries;
 #[cfg(test)]
