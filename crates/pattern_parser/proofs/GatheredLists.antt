@@ -54,7 +54,8 @@ module _ {L : Type 0} where
     begun : (c : Spanned L) (o : Gathered L) (r : List T) (a : Answer T (Gathered L)) → o ≡ first_of c → gathers_p o r ≡ a → gathers_p (first_of c) r ≡ a
     begun c o r a u h = ap (λ g. gathers_p g r) (sym u) ∙ h
 
-    list_from : (c : Spanned L) (z : Answer T (List (Spanned L))) (g : Gathered L) (l : List T) → bind z (λ all r. got (folded with_one (first_of c) all) r) ≡ got g l → ParsedFrom gathered_of (bind z (λ all r. got (c ∷ all) r)) g l
+    list_from : (c : Spanned L) (z : Answer T (List (Spanned L))) (g : Gathered L) (l : List T) → bind z (λ all r. got (folded with_one (first_of c) all) r) ≡ got g l
+        → ParsedFrom gathered_of (bind z (λ all r. got (c ∷ all) r)) g l
     list_from c (got ds s) g l e =
         let p : folded with_one (first_of c) ds ≡ g = cc in
         let q : s ≡ l = cc in
@@ -68,10 +69,13 @@ module _ {L : Type 0} where
     list_at ts r c e = seq-first P more_p cons_of ts r c e
 
     -- x { , x }
-    pub list_gives : (ts r l : List T) (c : Spanned L) (o : Gathered L) → P ts ≡ got c r → o ≡ first_of c → (result : Result (Gathered L) (Stop Cause)) → Parses (gathers_p o r) result l → ParsesFrom gathered_of (list_p f v P ts) result l
-    list_gives ts r l c o e u (Ok g) h = moved (list_p f v P ts) (bind (more_p r) (λ all s. got (c ∷ all) s)) g l (list_at ts r c e) (list_from c (more_p r) g l (begun c o r (got g l) u h))
+    pub list_gives : (ts r l : List T) (c : Spanned L) (o : Gathered L) → P ts ≡ got c r → o ≡ first_of c → (result : Result (Gathered L) (Stop Cause))
+        → Parses (gathers_p o r) result l → ParsesFrom gathered_of (list_p f v P ts) result l
+    list_gives ts r l c o e u (Ok g) h = moved (list_p f v P ts) (bind (more_p r) (λ all s. got (c ∷ all) s)) g l (list_at ts r c e)
+        (list_from c (more_p r) g l (begun c o r (got g l) u h))
     list_gives ts r l c o e u (Err (Refused x)) h =
-        list_at ts r c e ∙ through_fault (λ (all : List (Spanned L)). folded with_one (first_of c) all) (λ (all : List (Spanned L)). c ∷ all) (more_p r) x l (begun c o r (fault x l) u h)
+        list_at ts r c e ∙ through_fault (λ (all : List (Spanned L)). folded with_one (first_of c) all) (λ (all : List (Spanned L)). c ∷ all) (more_p r) x l
+            (begun c o r (fault x l) u h)
     list_gives ts r l c o e u (Err NoMemory) h = tt
 
     -- x , x { , x }
@@ -89,14 +93,16 @@ module _ {L : Type 0} where
         seq-first P (after_p f v (list_p f v P)) cons_of ts r c e
         ∙ ap (λ z. bind z (λ all l. got (c ∷ all) l)) (seq-first (one_p f v) (list_p f v P) rest_of r s b h ∙ ap (λ z. bind z (λ all l. got all l)) (list_at s t d k))
 
-    two_from : (c d : Spanned L) (z : Answer T (List (Spanned L))) (g : Gathered L) (l : List T) → bind z (λ all r. got (folded with_one (with_one (first_of c) d) all) r) ≡ got g l → ParsedFrom gathered_of (both_before c d z) g l
+    two_from : (c d : Spanned L) (z : Answer T (List (Spanned L))) (g : Gathered L) (l : List T)
+        → bind z (λ all r. got (folded with_one (with_one (first_of c) d) all) r) ≡ got g l → ParsedFrom gathered_of (both_before c d z) g l
     two_from c d (got ds s) g l e =
         let p : folded with_one (first_of c) (d ∷ ds) ≡ g = cc in
         let q : s ≡ l = cc in
         record { value = c ∷ d ∷ ds; read = ap (λ z. got (c ∷ d ∷ ds) z) q; made = sym (folded_all c (d ∷ ds)) ∙ p }
     two_from c d (fault x s) g l e = absurd cc
 
-    two_halted : (c d : Spanned L) (z : Answer T (List (Spanned L))) (x : Cause) (l : List T) → bind z (λ all r. got (folded with_one (with_one (first_of c) d) all) r) ≡ fault x l → both_before c d z ≡ fault x l
+    two_halted : (c d : Spanned L) (z : Answer T (List (Spanned L))) (x : Cause) (l : List T)
+        → bind z (λ all r. got (folded with_one (with_one (first_of c) d) all) r) ≡ fault x l → both_before c d z ≡ fault x l
     two_halted c d (got ds s) x l e = absurd cc
     two_halted c d (fault y s) x l e = let p : y ≡ x = cc in let q : s ≡ l = cc in ap (λ z. fault z s) p ∙ ap (λ z. fault x z) q
 
@@ -133,7 +139,8 @@ module _ {L : Type 0} where
       some_more (x ∷ xs) s n e = bound_some (length xs) (after_p f v P (x ∷ xs)) s
           (sym (ap (λ b. choose b (bind (after_p f v P (x ∷ xs)) (λ a r. mapped_p (λ all. a ∷ all) (many_in f (after_p f v P) (length xs)) r)) (got [] (x ∷ xs))) n) ∙ e)
 
-      node_from : (c : Spanned L) (z : Answer T (List (Spanned L))) → ((s : List T) → z ≡ got [] s → ⊥) → (g : Gathered L) (l : List T) → bind z (λ all r. got (folded with_one (first_of c) all) r) ≡ got g l
+      node_from : (c : Spanned L) (z : Answer T (List (Spanned L))) → ((s : List T) → z ≡ got [] s → ⊥) → (g : Gathered L) (l : List T)
+          → bind z (λ all r. got (folded with_one (first_of c) all) r) ≡ got g l
           → bind z (λ all r. got (node_of c all) r) ≡ got (over g) l
       node_from c (got [] s) n g l e = absurd (n s refl)
       node_from c (got (d ∷ ds) s) n g l e =
@@ -142,9 +149,12 @@ module _ {L : Type 0} where
           ap (λ z. got z s) (same c d ds ∙ ap over (sym (folded_all c (d ∷ ds)) ∙ p)) ∙ ap (λ z. got (over g) z) q
       node_from c (fault x s) n g l e = absurd cc
 
-      pub joined_all : (r l : List T) (c : Spanned L) (o g : Gathered L) → heads f r ≡ true → o ≡ first_of c → gathers_p o r ≡ got g l → mapped_p (node_of c) more_p r ≡ got (over g) l
+      pub joined_all : (r l : List T) (c : Spanned L) (o g : Gathered L) → heads f r ≡ true → o ≡ first_of c → gathers_p o r ≡ got g l
+          → mapped_p (node_of c) more_p r ≡ got (over g) l
       joined_all r l c o g n u h = node_from c (more_p r) (λ s. some_more r s n) g l (begun c o r (got g l) u h)
 
-      pub joined_halt : (r l : List T) (c : Spanned L) (o : Gathered L) → o ≡ first_of c → (x : Stop Cause) → Parses (gathers_p o r) (Err x) l → Parses (mapped_p (node_of c) more_p r) (Err x) l
-      joined_halt r l c o u (Refused x) h = through_fault (λ (all : List (Spanned L)). folded with_one (first_of c) all) (λ (all : List (Spanned L)). node_of c all) (more_p r) x l (begun c o r (fault x l) u h)
+      pub joined_halt : (r l : List T) (c : Spanned L) (o : Gathered L) → o ≡ first_of c → (x : Stop Cause) → Parses (gathers_p o r) (Err x) l
+          → Parses (mapped_p (node_of c) more_p r) (Err x) l
+      joined_halt r l c o u (Refused x) h = through_fault (λ (all : List (Spanned L)). folded with_one (first_of c) all) (λ (all : List (Spanned L)). node_of c all)
+          (more_p r) x l (begun c o r (fault x l) u h)
       joined_halt r l c o u NoMemory h = tt

@@ -1,5 +1,5 @@
 -- What is read as a function, put to a value.
-use Rattle.std.proofs.Common.{◌≡◌, refl, ap, ◌∙◌, Bool, true, false, List, [], ◌∷◌, Option, None, Some, Result, Err}
+use Rattle.std.proofs.Common.{◌≡◌, refl, ap, ◌∙◌, Bool, true, false, List, [], ◌∷◌, Option, None, Some, Err}
 use Rattle.pgq_base.specs.declared.refusal.Span.{Span}
 use Rattle.pgq_base.specs.declared.refusal.Stop.{Stop}
 use Rattle.pgq_base.specs.declared.refusal.Stop.TheVariants.{NoMemory, Refused}
@@ -43,7 +43,8 @@ module _ {T A B C D : Type 0} (X : Parser T A) (Q : Parser T B) (j : A → C) (k
   pub whole : (ts r : List T) (c : C) → mapped_p j X ts ≡ got c r → whole_p ts ≡ mapped_p (k c) Q r
   whole ts r c e = whole_by (X ts) ts r c refl e
 
-  halted_by : (z : Answer T A) (r : List T) (c : Cause) → bind z (λ a l. got (j a) l) ≡ fault c r → bind (bind z (λ a r. mapped_p (λ b. let p : A × B = (a, b) in p) Q r)) (λ d r. got (joined d) r) ≡ fault c r
+  halted_by : (z : Answer T A) (r : List T) (c : Cause) → bind z (λ a l. got (j a) l) ≡ fault c r
+      → bind (bind z (λ a r. mapped_p (λ b. let p : A × B = (a, b) in p) Q r)) (λ d r. got (joined d) r) ≡ fault c r
   halted_by (got a s) r c e = absurd cc
   halted_by (fault x s) r c e = let p : x ≡ c = cc in let q : s ≡ r = cc in ap (λ z. fault z s) p ∙ ap (λ z. fault c z) q
 
@@ -96,11 +97,13 @@ module _ {T L : Type 0} (N : Parser T Span) (P : Parser T (Spanned L)) where
   plain_again (got c r) = refl
   plain_again (fault x r) = refl
 
-  turned_again : (s : Span) (z : Answer T (Spanned L)) → bind (bind z (λ b r. got (let p : Option Span × Spanned L = (Some s, b) in p) r)) (λ d r. got (not_if d.0 d.1) r) ≡ bind (bind z (λ b r. got (let p : Span × Spanned L = (s, b) in p) r)) (λ d r. got (not_if (Some d.0) d.1) r)
+  turned_again : (s : Span) (z : Answer T (Spanned L)) → bind (bind z (λ b r. got (let p : Option Span × Spanned L = (Some s, b) in p) r))
+      (λ d r. got (not_if d.0 d.1) r) ≡ bind (bind z (λ b r. got (let p : Span × Spanned L = (s, b) in p) r)) (λ d r. got (not_if (Some d.0) d.1) r)
   turned_again s (got c r) = refl
   turned_again s (fault x r) = refl
 
-  by_not : (z : Answer T Span) → behind_not (bind z (λ s r. got (Some s) r)) ≡ bind (bind z (λ a r. mapped_p (λ b. let p : Span × Spanned L = (a, b) in p) P r)) (λ d r. got (not_if (Some d.0) d.1) r)
+  by_not : (z : Answer T Span) → behind_not (bind z (λ s r. got (Some s) r)) ≡ bind (bind z (λ a r. mapped_p (λ b. let p : Span × Spanned L = (a, b) in p) P r))
+      (λ d r. got (not_if (Some d.0) d.1) r)
   by_not (got s r) = turned_again s (P r)
   by_not (fault x r) = refl
 

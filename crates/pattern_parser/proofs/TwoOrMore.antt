@@ -16,11 +16,13 @@ module _ {T B A : Type 0} (f : T → Bool) (v : T → B) (P : Parser T A) where
   abbrev pub two_p : Parser T (List A)
   two_p = mapped_p cons_of (seq_p P (after_p f v (list_p f v P)))
 
-  both : (a b : A) (z : Answer T (List A)) → bind (bind (bind z (λ all r. got (folded pushed (b ∷ []) all) r)) (λ all l. got all l)) (λ all l. got (a ∷ all) l) ≡ bind z (λ all r. got (folded pushed (a ∷ b ∷ []) all) r)
+  both : (a b : A) (z : Answer T (List A)) → bind (bind (bind z (λ all r. got (folded pushed (b ∷ []) all) r)) (λ all l. got all l)) (λ all l. got (a ∷ all) l)
+      ≡ bind z (λ all r. got (folded pushed (a ∷ b ∷ []) all) r)
   both a b (got all r) = ap (λ l. got l r) (ap (λ l. a ∷ l) (folded-pushed (b ∷ []) all) ∙ sym (folded-pushed (a ∷ b ∷ []) all))
   both a b (fault c r) = refl
 
-  pub two_from : (ts r s t : List T) (a b : A) (c : B) (all : List A) → P ts ≡ got a r → one_p f v r ≡ got c s → P s ≡ got b t → all ≡ a ∷ b ∷ [] → gathered f (after_p f v P) pushed (length t) all t ≡ two_p ts
+  pub two_from : (ts r s t : List T) (a b : A) (c : B) (all : List A) → P ts ≡ got a r → one_p f v r ≡ got c s → P s ≡ got b t → all ≡ a ∷ b ∷ []
+      → gathered f (after_p f v P) pushed (length t) all t ≡ two_p ts
   two_from ts r s t a b c all e h k u =
       ap (λ l. gathered f (after_p f v P) pushed (length t) l t) u
       ∙ sym (seq-first P (after_p f v (list_p f v P)) cons_of ts r a e

@@ -16,7 +16,7 @@ use Rattle.token_grammar.specs.Rules.Rule.{mapped, seq}
 use Rattle.condition_grammar.specs.Spans.{not_if}
 use Rattle.pattern_parser.specs.Insides.{Production, the}
 use Rattle.pattern_parser.specs.Items.{count_item, leaf_item}
-use Rattle.pattern_parser.specs.Tests.{Tree, OfName, put_name, is_plain, after_name, unnamed_operand, test, test_from, negation}
+use Rattle.pattern_parser.specs.Tests.{OfName, put_name, is_plain, after_name, unnamed_operand, test, test_from, negation}
 use Rattle.pattern_parser.specs.Queries.{is_ungathered, is_leaf_word, first_member, item_rest, item}
 use Rattle.pattern_parser.specs.Reading.{reads, at_depth}
 use Rattle.pattern_parser.proofs.Puts.{not_first}
@@ -33,7 +33,8 @@ same_head : (ts : List Token) → heads (is_mark m.Count) ts ≡ false → heads
 same_head [] h k = refl
 same_head (x ∷ xs) h k = same_class (class x) h k
 
-same_one : (ts : List Token) → heads (is_mark m.Count) ts ≡ false → heads (on class is_leaf_word) ts ≡ false → one_p (on class is_ungathered) named ts ≡ one_p (on class is_plain) named ts
+same_one : (ts : List Token) → heads (is_mark m.Count) ts ≡ false → heads (on class is_leaf_word) ts ≡ false
+    → one_p (on class is_ungathered) named ts ≡ one_p (on class is_plain) named ts
 same_one [] h k = refl
 same_one (x ∷ xs) h k = ap (λ b. choose b (got (named x) xs) (fault unexpected (x ∷ xs))) (same_class (class x) h k)
 
@@ -42,7 +43,8 @@ module _ (n : ℕ) (ts : List Token) (count : heads (is_mark m.Count) ts ≡ fal
   unfolding test_from unnamed_operand g.literals g.coalesce g.parens
   same_test =
       ap₂ (λ b z. choose (heads (on class (first unnamed_operand)) ts) (reads (at_depth n) unnamed_test ts)
-      (choose b (bind (bind z (λ a r. mapped_p (λ f. let p : Named × OfName = (a, f) in p) (reads (at_depth n) after_name) r)) (λ d r. got (put_name d) r)) (reads (at_depth n) word_test ts)))
+      (choose b (bind (bind z (λ a r. mapped_p (λ f. let p : Named × OfName = (a, f) in p) (reads (at_depth n) after_name) r)) (λ d r. got (put_name d) r))
+          (reads (at_depth n) word_test ts)))
       (same_head ts count leaf) (same_one ts count leaf)
 
   pub first_is_member : reads (at_depth n) first_member ts ≡ reads (at_depth n) negation ts

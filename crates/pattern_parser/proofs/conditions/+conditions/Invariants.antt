@@ -76,7 +76,8 @@ decreases-condition l = 22 * l.depth + 21
 
 -- what is read so far, and what would be read from here, make the whole
 abbrev pub invariant-more_operands-loop-turn : goal.invariant-more_operands-loop-turn
-invariant-more_operands-loop-turn l = gathered (is_mark m.Comma) (after_p (is_mark m.Comma) span_of (reads (at_depth l.depth) operand)) with_one (l.turn-end - l.turn) l.all l.tokens
+invariant-more_operands-loop-turn l = gathered (is_mark m.Comma) (after_p (is_mark m.Comma) span_of (reads (at_depth l.depth) operand)) with_one (l.turn-end - l.turn)
+    l.all l.tokens
     ≡ gathers m.Comma (reads (at_depth l.depth) operand) l.fn.all l.fn.tokens
 
 abbrev pub invariant-more_negations-loop-turn : goal.invariant-more_negations-loop-turn
@@ -84,5 +85,6 @@ invariant-more_negations-loop-turn l = gathered (is_mark m.And) (after_p (is_mar
     ≡ gathers m.And (reads (at_depth l.depth) negation) l.fn.all l.fn.tokens
 
 abbrev pub invariant-more_conjunctions-loop-turn : goal.invariant-more_conjunctions-loop-turn
-invariant-more_conjunctions-loop-turn l = gathered (is_mark m.Or) (after_p (is_mark m.Or) span_of (reads (at_depth l.depth) conjunction)) with_one (l.turn-end - l.turn) l.all l.tokens
+invariant-more_conjunctions-loop-turn l = gathered (is_mark m.Or) (after_p (is_mark m.Or) span_of (reads (at_depth l.depth) conjunction)) with_one (l.turn-end - l.turn)
+    l.all l.tokens
     ≡ gathers m.Or (reads (at_depth l.depth) conjunction) l.fn.all l.fn.tokens

@@ -12,4 +12,5 @@ use Rattle.pattern_parser.proofs.leaves.date.Goals as goal
 
 pub returns : goal.returns
 unfolding g.date_text
-returns c = subst (λ a. Parses a c.date_text.result c.date_text.new.tokens) (sym (one_put (on class is_date_literal) (λ t word. literal (reach word.span t.span) (date_value (text_in t.kind))) c.args.word c.args.tokens.now)) c.date_text.ensures
+returns c = subst (λ a. Parses a c.date_text.result c.date_text.new.tokens) (sym
+    (one_put (on class is_date_literal) (λ t word. literal (reach word.span t.span) (date_value (text_in t.kind))) c.args.word c.args.tokens.now)) c.date_text.ensures

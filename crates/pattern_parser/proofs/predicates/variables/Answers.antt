@@ -1,4 +1,4 @@
-use Rattle.std.proofs.Common.{sym, ap, subst, ◌∙◌, [], ◌∷◌, ◌++◌}
+use Rattle.std.proofs.Common.{ap, subst, ◌∙◌, [], ◌∷◌, ◌++◌}
 use Rattle.token_grammar.specs.Rules.{on}
 use Rattle.token_grammar.specs.Parser.{one_p}
 use Rattle.token_grammar.specs.Code.{Parses}
