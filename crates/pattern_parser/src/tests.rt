@@ -566,15 +566,15 @@ fn depth_has_a_limit(rt: HostRuntime) -> Result<(), Fail> {
 fn long_texts_are_read(rt: HostRuntime) -> Result<(), Fail> {
     let alloc = rt.alloc();
     let rows = [
-        (repeated(alloc, "SELECT * FROM GRAPH_TABLE (g MATCH (x)", "->(y)", 13000, " COLUMNS (1 AS c))")?, "ok"),
-        (repeated(alloc, "SELECT * FROM GRAPH_TABLE (g MATCH (x)", "|(y)", 16000, " COLUMNS (1 AS c))")?, "ok"),
-        (repeated(alloc, "SELECT * FROM GRAPH_TABLE (g MATCH (x)", ", (y)", 16000, " COLUMNS (1 AS c))")?, "ok"),
-        (repeated(alloc, "SELECT * FROM GRAPH_TABLE (g MATCH (x IS a", "&b", 32000, ") COLUMNS (1 AS c))")?, "ok"),
-        (repeated(alloc, "SELECT * FROM GRAPH_TABLE (g MATCH (x) WHERE TRUE", " AND TRUE", 32000, " COLUMNS (1 AS c))")?, "ok"),
-        (repeated(alloc, "SELECT * FROM GRAPH_TABLE (g MATCH (x) WHERE TRUE", " OR TRUE", 32000, " COLUMNS (1 AS c))")?, "ok"),
-        (repeated(alloc, "SELECT * FROM GRAPH_TABLE (g MATCH (x) WHERE 1 IN (1", ", 1", 32000, ") COLUMNS (1 AS c))")?, "ok"),
-        (repeated(alloc, "SELECT * FROM GRAPH_TABLE (g MATCH (x) COLUMNS (1", ", 1", 32000, "))")?, "ok"),
-        (repeated(alloc, "SELECT * FROM GRAPH_TABLE (g MATCH (x)", ",", 65000, "")?, "201 39-40"),
+        (repeated(alloc, "SELECT * FROM GRAPH_TABLE (g MATCH (x)", "->(y)", 3000, " COLUMNS (1 AS c))")?, "ok"),
+        (repeated(alloc, "SELECT * FROM GRAPH_TABLE (g MATCH (x)", "|(y)", 4000, " COLUMNS (1 AS c))")?, "ok"),
+        (repeated(alloc, "SELECT * FROM GRAPH_TABLE (g MATCH (x)", ", (y)", 4000, " COLUMNS (1 AS c))")?, "ok"),
+        (repeated(alloc, "SELECT * FROM GRAPH_TABLE (g MATCH (x IS a", "&b", 8000, ") COLUMNS (1 AS c))")?, "ok"),
+        (repeated(alloc, "SELECT * FROM GRAPH_TABLE (g MATCH (x) WHERE TRUE", " AND TRUE", 8000, " COLUMNS (1 AS c))")?, "ok"),
+        (repeated(alloc, "SELECT * FROM GRAPH_TABLE (g MATCH (x) WHERE TRUE", " OR TRUE", 8000, " COLUMNS (1 AS c))")?, "ok"),
+        (repeated(alloc, "SELECT * FROM GRAPH_TABLE (g MATCH (x) WHERE 1 IN (1", ", 1", 8000, ") COLUMNS (1 AS c))")?, "ok"),
+        (repeated(alloc, "SELECT * FROM GRAPH_TABLE (g MATCH (x) COLUMNS (1", ", 1", 8000, "))")?, "ok"),
+        (repeated(alloc, "SELECT * FROM GRAPH_TABLE (g MATCH (x)", ",", 20000, "")?, "201 39-40"),
     ];
     for (text, wanted) in &rows {
         assert_eq!(rt; verdict_of(alloc, text.as_str())?.as_str(), *wanted);
