@@ -28,7 +28,8 @@ unfolding all_prefix any_prefix shortest_prefix kind_of_any mode_and_noun prefix
 prefix_level n ts = refl
 
 -- where what comes first is read, and the loop behind it fails
-module _ {A B C D : Type 0} (P : Parser Token A) (Q : Parser Token B) (h : A × B → C) (a : A) (g : B → D) (H : D → C) (made : (b : B) → h (let p : A × B = (a, b) in p) ≡ H (g b)) where
+module _ {A B C D : Type 0} (P : Parser Token A) (Q : Parser Token B) (h : A × B → C) (a : A) (g : B → D) (H : D → C)
+    (made : (b : B) → h (let p : A × B = (a, b) in p) ≡ H (g b)) where
   pub through_halt : (ts r l : List Token) → P ts ≡ got a r → (e : Stop Cause) → Parses (bind (Q r) (λ v l. got (g v) l)) (Err e) l → Parses (mapped_p h (seq_p P Q) ts) (Err e) l
   through_halt ts r l first (Refused c) f = seq-through_fault P Q h a g H made ts r l c first f
   through_halt ts r l first NoMemory f = tt
@@ -36,4 +37,5 @@ module _ {A B C D : Type 0} (P : Parser Token A) (Q : Parser Token B) (h : A × 
 -- a list, from its first item on
 pub list_start : {A : Type 0} (P : Parser Token A) (ts r : List Token) (a : A) (n : ℕ) (s : List A) → P ts ≡ got a r → n ≡ length r → s ≡ a ∷ [] →
     gathered (is_mark m.Comma) (after_p (is_mark m.Comma) span_of P) pushed n s r ≡ reads_list P ts
-list_start P ts r a n s e h k = ap₂ (λ i l. gathered (is_mark m.Comma) (after_p (is_mark m.Comma) span_of P) pushed i l r) h k ∙ sym (list-first (is_mark m.Comma) span_of P ts a r e)
+list_start P ts r a n s e h k = ap₂ (λ i l. gathered (is_mark m.Comma) (after_p (is_mark m.Comma) span_of P) pushed i l r) h k
+    ∙ sym (list-first (is_mark m.Comma) span_of P ts a r e)

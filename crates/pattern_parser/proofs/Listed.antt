@@ -33,16 +33,20 @@ module _ {T A : Type 0} (f : T → Bool) (M P : Parser T A) (h : A → List A �
   some_more (x ∷ xs) s n e = bound_some (length xs) (M (x ∷ xs)) s
       (sym (ap (λ b. choose b (bind (M (x ∷ xs)) (λ a r. mapped_p (λ all. a ∷ all) (many_in f M (length xs)) r)) (got [] (x ∷ xs))) n) ∙ e)
 
-  all_of : (a : A) (z : Answer T (List A)) → ((s : List T) → z ≡ got [] s → ⊥) → (all : List A) (l : List T) → bind z (λ v l. got (folded pushed (a ∷ []) v) l) ≡ got all l → bind z (λ y l. got (h a y) l) ≡ got (H all) l
+  all_of : (a : A) (z : Answer T (List A)) → ((s : List T) → z ≡ got [] s → ⊥) → (all : List A) (l : List T) →
+      bind z (λ v l. got (folded pushed (a ∷ []) v) l) ≡ got all l → bind z (λ y l. got (h a y) l) ≡ got (H all) l
   all_of a (got [] s) n all l e = absurd (n s refl)
   all_of a (got (k ∷ ks) s) n all l e =
       let p : folded pushed (a ∷ []) (k ∷ ks) ≡ all = cc in let q : s ≡ l = cc in
       ap (λ v. got v s) (made a k ks ∙ ap H (sym (folded-pushed (a ∷ []) (k ∷ ks)) ∙ p)) ∙ ap (λ z. got (H all) z) q
   all_of a (fault c s) n all l e = absurd cc
 
-  pub listed_all : (ts r l : List T) (a : A) (all : List A) → P ts ≡ got a r → heads f r ≡ true → gathered f M pushed (length r) (a ∷ []) r ≡ got all l → mapped_p value (seq_p P (many_p f M)) ts ≡ got (H all) l
+  pub listed_all : (ts r l : List T) (a : A) (all : List A) → P ts ≡ got a r → heads f r ≡ true → gathered f M pushed (length r) (a ∷ []) r ≡ got all l →
+      mapped_p value (seq_p P (many_p f M)) ts ≡ got (H all) l
   listed_all ts r l a all e n k = seq-first P (many_p f M) value ts r a e ∙ all_of a (many_p f M r) (λ s. some_more r s n) all l k
 
-  pub listed_halt : (ts r l : List T) (a : A) → P ts ≡ got a r → (x : Stop Cause) → Parses (gathered f M pushed (length r) (a ∷ []) r) (Err x) l → Parses (mapped_p value (seq_p P (many_p f M)) ts) (Err x) l
-  listed_halt ts r l a e (Refused c) k = seq-first P (many_p f M) value ts r a e ∙ through_fault (λ (v : List A). folded pushed (a ∷ []) v) (λ (y : List A). h a y) (many_p f M r) c l k
+  pub listed_halt : (ts r l : List T) (a : A) → P ts ≡ got a r → (x : Stop Cause) → Parses (gathered f M pushed (length r) (a ∷ []) r) (Err x) l →
+      Parses (mapped_p value (seq_p P (many_p f M)) ts) (Err x) l
+  listed_halt ts r l a e (Refused c) k = seq-first P (many_p f M) value ts r a e ∙ through_fault (λ (v : List A). folded pushed (a ∷ []) v) (λ (y : List A). h a y)
+      (many_p f M r) c l k
   listed_halt ts r l a e NoMemory k = tt

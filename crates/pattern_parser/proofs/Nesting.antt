@@ -72,10 +72,12 @@ module _ (k : Inside Own) {V : Type 0} (f : Bracketed k → V) where
   stays n ts true = refl
   stays n ts false = refl
 
-  pub nest_open : (n : ℕ) (ts : List Token) → mapped_p f (reads (at_depth n) (nest span_of left_parenthesis right_parenthesis k)) ts ≡ nested_p (open_p n) m.RightParenthesis k f (n - 1) ts
+  pub nest_open : (n : ℕ) (ts : List Token) → mapped_p f (reads (at_depth n) (nest span_of left_parenthesis right_parenthesis k)) ts ≡ nested_p
+      (open_p n) m.RightParenthesis k f (n - 1) ts
   nest_open n ts = by (n == 0) refl where
     by : (b : Bool) → (n == 0) ≡ b → mapped_p f (reads (at_depth n) (nest span_of left_parenthesis right_parenthesis k)) ts ≡ nested_p (open_p n) m.RightParenthesis k f (n - 1) ts
-    by true e = nest_zero m.LeftParenthesis m.RightParenthesis k f n ts (is_zero n e) ∙ sym (ap (behind n ts) (open_zero n ts e) ∙ stays n ts (heads (is_mark m.LeftParenthesis) ts))
+    by true e = nest_zero m.LeftParenthesis m.RightParenthesis k f n ts (is_zero n e) ∙ sym
+        (ap (behind n ts) (open_zero n ts e) ∙ stays n ts (heads (is_mark m.LeftParenthesis) ts))
     by false e = nest_suc m.LeftParenthesis m.RightParenthesis k f n ts (not_zero n e) ∙ sym (ap (behind n ts) (open_suc n ts e))
 
 -- a part or a vertex, at any depth

@@ -40,22 +40,26 @@ use Rattle.pattern_parser.proofs.PatternSpans.{the_in, name_in, after_in, inside
 abbrev S : Type 0
 S = List Span
 
-vertex_spans : (c : Content) (span : Span) → of_factor (factor_is.Vertex (record { variable = c.variable; label = c.label; condition = c.condition; span = span })) ≡ span ∷ of_content c
+vertex_spans : (c : Content) (span : Span) → of_factor (factor_is.Vertex (record { variable = c.variable; label = c.label; condition = c.condition; span = span })) ≡ span
+    ∷ of_content c
 vertex_spans c span = ap of_factor (sym (factor_is.rolls-Vertex _)) ∙ fold-roll-Factor S S S S factor_step part_step sequence_step union_step (Factor-F.Vertex _)
 
 edge_spans : (e : EdgePattern) (q : Option Quantifier) → of_factor (factor_is.Edge e.direction e.filler q) ≡ of_filler e.filler ++ if_given of_quantifier q
-edge_spans e q = ap of_factor (sym (factor_is.rolls-Edge e.direction e.filler q)) ∙ fold-roll-Factor S S S S factor_step part_step sequence_step union_step (Factor-F.Edge e.direction e.filler q)
+edge_spans e q = ap of_factor (sym (factor_is.rolls-Edge e.direction e.filler q)) ∙ fold-roll-Factor S S S S factor_step part_step sequence_step union_step
+    (Factor-F.Edge e.direction e.filler q)
 
 part_factor_spans : (p : PartTree) (q : Option Quantifier) → of_factor (factor_is.Part p q) ≡ of_part p ++ if_given of_quantifier q
 part_factor_spans p q = ap of_factor (sym (factor_is.rolls-Part p q)) ∙ fold-roll-Factor S S S S factor_step part_step sequence_step union_step (Factor-F.Part p q)
 
 part_spans : (c : PartContent) (span : Span) → of_part (part_of c span) ≡ span ∷ (if_given of_mode c.mode ++ (of_union c.body ++ if_given of_condition c.condition))
-part_spans c span = ap of_part (sym (rolls-PartTree' (record { mode = c.mode; body = c.body; condition = c.condition; span = span }))) ∙ fold-roll-PartTree S S S S factor_step part_step sequence_step union_step (record { mode = c.mode; body = c.body; condition = c.condition; span = span })
+part_spans c span = ap of_part (sym (rolls-PartTree' (record { mode = c.mode; body = c.body; condition = c.condition; span = span })))
+    ∙ fold-roll-PartTree S S S S factor_step part_step sequence_step union_step (record { mode = c.mode; body = c.body; condition = c.condition; span = span })
 
 sequence_spans : (factors : List Factor) → of_sequence (sequence_of factors) ≡ joined (map of_factor factors)
 sequence_spans factors = fold-roll-Sequence S S S S factor_step part_step sequence_step union_step (record { factors = factors })
 
-union_spans : (operands : List Sequence) (joints : List Joint) → of_union (roll-Union (record { operands = operands; joints = joints })) ≡ joined (map of_sequence operands) ++ map (λ (j : Joint). j.span) joints
+union_spans : (operands : List Sequence) (joints : List Joint) → of_union (roll-Union (record { operands = operands; joints = joints })) ≡ joined
+    (map of_sequence operands) ++ map (λ (j : Joint). j.span) joints
 union_spans operands joints = fold-roll-Union S S S S factor_step part_step sequence_step union_step (record { operands = operands; joints = joints })
 
 -- ---- parts and vertices
@@ -69,7 +73,8 @@ of_part_content c = if_given of_mode c.mode ++ (of_union c.body ++ if_given of_c
 abbrev JointIn : Holds Joint
 JointIn = Spans (λ j. j.span ∷ [])
 
-reach_with_in : (at middle end : ℕ) (own : Span) (q : Option Quantifier) → middle ≤ end → In at middle own → IfGiven (Spans of_quantifier) middle end q → In at end (reach_with own q)
+reach_with_in : (at middle end : ℕ) (own : Span) (q : Option Quantifier) → middle ≤ end → In at middle own → IfGiven (Spans of_quantifier) middle end q →
+    In at end (reach_with own q)
 reach_with_in at middle end own None u h i = wider (omega arith) u h
 reach_with_in at middle end own (Some q) u h i = reaches h i.0
 
@@ -83,13 +88,15 @@ part_at_in at x y z end first d h l i j u k =
     (wider (omega arith) u own, all_wider (omega (arith, h.from, h.ordered, h.to)) (omega (arith, j.from, j.ordered, j.to, u)) (of_part_content d.0) i)
     (all_wider (omega (arith, h.from, h.ordered, h.to, l, j.from, j.ordered, j.to)) (omega arith) (if_given of_quantifier d.1.1) (given_all of_quantifier z end d.1.1 k))))
 
-vertex_at_in : (at x y end : ℕ) (first : Span) (d : Content × Span) → In at x first → x ≤ y → AllIn x y (of_content d.0) → In y end d.1 → AllIn at end (of_placed of_factor (vertex_at first d.1 d.0))
+vertex_at_in : (at x y end : ℕ) (first : Span) (d : Content × Span) → In at x first → x ≤ y → AllIn x y (of_content d.0) → In y end d.1 →
+    AllIn at end (of_placed of_factor (vertex_at first d.1 d.0))
 vertex_at_in at x y end first d h l i j =
     let own : In at end (reach first d.1) = reaches (wider (omega arith) l h) j in
     (own, subst (AllIn at end) (sym (vertex_spans d.0 (reach first d.1)))
     (own, all_wider (omega (arith, h.from, h.ordered, h.to)) (omega (arith, j.from, j.ordered, j.to)) (of_content d.0) i))
 
-edge_at_in : (at middle end : ℕ) (e : EdgePattern) (q : Option Quantifier) → at ≤ middle → middle ≤ end → EdgeIn at middle e → IfGiven (Spans of_quantifier) middle end q → AllIn at end (of_placed of_factor (edge_at e q))
+edge_at_in : (at middle end : ℕ) (e : EdgePattern) (q : Option Quantifier) → at ≤ middle → middle ≤ end → EdgeIn at middle e → IfGiven (Spans of_quantifier) middle end q →
+    AllIn at end (of_placed of_factor (edge_at e q))
 edge_at_in at middle end e q l u h i =
     (reach_with_in at middle end e.filler.span q u h.1 i,
     subst (AllIn at end) (sym (edge_spans e q)) (all_append at end (of_filler e.filler) (if_given of_quantifier q) (all_wider (omega arith) u (of_filler e.filler) h.0)
@@ -112,14 +119,16 @@ module _ {A : Type 0} (f : A → List Span) where
   nodes_all : (at end : ℕ) (xs : List (Placed A)) → Chain (Spans (of_placed f)) at end xs → AllIn at end (joined (map f (map node_of xs)))
   nodes_all at end [] h = tt
   nodes_all at end (x ∷ xs) (middle, l, u, first, rest) =
-      all_append at end (f x.node) (joined (map f (map node_of xs))) (all_wider (omega arith) u (f x.node) first.1) (all_wider l (omega arith) (joined (map f (map node_of xs))) (nodes_all middle end xs rest))
+      all_append at end (f x.node) (joined (map f (map node_of xs))) (all_wider (omega arith) u (f x.node) first.1)
+          (all_wider l (omega arith) (joined (map f (map node_of xs))) (nodes_all middle end xs rest))
 
 sequence_all : (at end : ℕ) (d : Placed Factor × List (Placed Factor)) → Both (Spans (of_placed of_factor)) (Chain (Spans (of_placed of_factor))) at end d →
     AllIn at end (of_placed of_sequence (placed (sequence_of (d.0.node ∷ map node_of d.1)) (reach_over d.0 d.1)))
 sequence_all at end d h =
     (over_in of_factor at h.middle end d.0 d.1 h.upper h.first.0 h.second,
     subst (AllIn at end) (sym (sequence_spans (d.0.node ∷ map node_of d.1))) (all_append at end (of_factor d.0.node) (joined (map of_factor (map node_of d.1)))
-    (all_wider (omega arith) h.upper (of_factor d.0.node) h.first.1) (all_wider h.lower (omega arith) (joined (map of_factor (map node_of d.1))) (nodes_all of_factor h.middle end d.1 h.second))))
+    (all_wider (omega arith) h.upper (of_factor d.0.node) h.first.1) (all_wider h.lower (omega arith) (joined (map of_factor (map node_of d.1)))
+        (nodes_all of_factor h.middle end d.1 h.second))))
 
 joint_all : (at middle end : ℕ) (bar : Span) (last : Option Span) → middle ≤ end → In at middle bar → IfGiven In middle end last → JointIn at end (joint_of bar last)
 joint_all at middle end bar None u h i = (wider (omega arith) u h, tt)
@@ -130,7 +139,8 @@ JoinedIn = Both JointIn (Spans (of_placed of_sequence))
 
 operands_chain : (at end : ℕ) (more : List Joined) → Chain JoinedIn at end more → Chain (Spans (of_placed of_sequence)) at end (map operand_in more)
 operands_chain at end [] h = tt
-operands_chain at end (d ∷ more) (middle, l, u, first, rest) = (middle, l, u, all_wider first.lower (omega arith) (of_placed of_sequence d.1) first.second, operands_chain middle end more rest)
+operands_chain at end (d ∷ more) (middle, l, u, first, rest) = (middle, l, u, all_wider first.lower (omega arith)
+    (of_placed of_sequence d.1) first.second, operands_chain middle end more rest)
 
 operands_all : (at end : ℕ) (more : List Joined) → Chain JoinedIn at end more → AllIn at end (joined (map of_sequence (map sequence_in more)))
 operands_all at end [] h = tt
@@ -141,7 +151,8 @@ operands_all at end (d ∷ more) (middle, l, u, first, rest) =
 joints_all : (at end : ℕ) (more : List Joined) → Chain JoinedIn at end more → AllIn at end (map (λ (j : Joint). j.span) (map joint_in more))
 joints_all at end [] h = tt
 joints_all at end (d ∷ more) (middle, l, u, first, rest) =
-    (wider (omega arith) (omega (arith, first.upper, u)) first.first.0, all_wider l (omega arith) (map (λ (j : Joint). j.span) (map joint_in more)) (joints_all middle end more rest))
+    (wider (omega arith) (omega (arith, first.upper, u)) first.first.0, all_wider l (omega arith) (map (λ (j : Joint). j.span) (map joint_in more))
+        (joints_all middle end more rest))
 
 union_all : (at end : ℕ) (d : Placed Sequence × List Joined) → Both (Spans (of_placed of_sequence)) (Chain JoinedIn) at end d →
     AllIn at end (of_placed of_union (placed (union_of d.0.node d.1) (reach_over d.0 (map operand_in d.1))))
@@ -161,21 +172,25 @@ record PrefixIn (at end : ℕ) (p : Prefix) : Type 0 where
   upper : p.from ≤ end
 
 -- a selector's words, and the mode behind them
-prefix_of_in : (at middle end : ℕ) (kind : SelectorKind) (span : Span) (mode : Option ModeWord) → at ≤ middle → middle ≤ end → In at middle span → IfGiven (Spans of_mode) middle end mode → PrefixIn at end (prefix_of kind span mode)
+prefix_of_in : (at middle end : ℕ) (kind : SelectorKind) (span : Span) (mode : Option ModeWord) → at ≤ middle → middle ≤ end → In at middle span →
+    IfGiven (Spans of_mode) middle end mode → PrefixIn at end (prefix_of kind span mode)
 prefix_of_in at middle end kind span mode l u h i = record {
   spans = (wider (omega arith) u h, all_wider l (omega arith) (if_given of_mode mode) (given_all of_mode middle end mode i));
   lower = h.from;
   upper = omega (arith, h.ordered, h.to, u);
 }
 
-any_of_in : (at x y end : ℕ) (word : Span) (s : Option Selector) (mode : Option ModeWord) → at ≤ x → x ≤ y → y ≤ end → In at x word → IfGiven (Spans of_selector) x y s → IfGiven (Spans of_mode) y end mode → PrefixIn at end (any_of word s mode)
+any_of_in : (at x y end : ℕ) (word : Span) (s : Option Selector) (mode : Option ModeWord) → at ≤ x → x ≤ y → y ≤ end → In at x word → IfGiven (Spans of_selector) x y s →
+    IfGiven (Spans of_mode) y end mode → PrefixIn at end (any_of word s mode)
 any_of_in at x y end word None mode l v u h i j = prefix_of_in at y end _ word mode (omega (arith, l, v)) u (wider (omega arith) v h) j
 any_of_in at x y end word (Some s) mode l v u h i j = prefix_of_in at y end _ (reach word s.span) mode (omega (arith, l, v)) u (reaches h i.0) j
 
 -- the mode may stand between the number and GROUP
-shortest_of_in : (at x y z end : ℕ) (word : Span) (count : ℕ × Span) (mode : Option ModeWord) (group : Option Span) → at ≤ x → x ≤ y → y ≤ z → z ≤ end → In at x word → In x y count.1 → IfGiven (Spans of_mode) y z mode →
+shortest_of_in : (at x y z end : ℕ) (word : Span) (count : ℕ × Span) (mode : Option ModeWord) (group : Option Span) → at ≤ x → x ≤ y → y ≤ z → z ≤ end → In at x word →
+    In x y count.1 → IfGiven (Spans of_mode) y z mode →
     IfGiven In z end group → PrefixIn at end (shortest_of word count mode group)
-shortest_of_in at x y z end word count mode None l v w u h i j k = prefix_of_in at y end _ (reach word count.1) mode (omega (arith, l, v)) (omega (arith, w, u)) (reaches h i) (mode_wider mode j) where
+shortest_of_in at x y z end word count mode None l v w u h i j k = prefix_of_in at y end _ (reach word count.1) mode (omega (arith, l, v)) (omega (arith, w, u))
+    (reaches h i) (mode_wider mode j) where
   mode_wider : (o : Option ModeWord) → IfGiven (Spans of_mode) y z o → IfGiven (Spans of_mode) y end o
   mode_wider None q = tt
   mode_wider (Some o) q = all_wider (omega arith) u (of_mode o) q
@@ -203,7 +218,8 @@ module _ (n : ℕ) where
   all_prefix_in : Gives n all_prefix PrefixIn
   unfolding all_prefix
   all_prefix_in = mapped_gives n (seq_gives n (the_in n m.All) (seq_gives n (the_in n m.Shortest) mode_and_noun_in))
-      (λ at end le d h. prefix_of_in at h.second.middle end _ (reach d.0 d.1.0) d.1.1 (omega (arith, h.lower, h.second.lower)) h.second.upper (reaches h.first h.second.first) h.second.second)
+      (λ at end le d h. prefix_of_in at h.second.middle end _ (reach d.0 d.1.0) d.1.1 (omega (arith, h.lower, h.second.lower)) h.second.upper
+          (reaches h.first h.second.first) h.second.second)
 
   any_prefix_in : Gives n any_prefix PrefixIn
   unfolding any_prefix
@@ -212,7 +228,8 @@ module _ (n : ℕ) where
 
   shortest_prefix_in : Gives n shortest_prefix PrefixIn
   unfolding shortest_prefix
-  shortest_prefix_in = mapped_gives n (seq_gives n (the_in n m.Shortest) (seq_gives n number_in (seq_gives n mode_and_noun_in (opt_gives n (either_gives n (the_in n m.Group) (the_in n m.Groups))))))
+  shortest_prefix_in = mapped_gives n
+      (seq_gives n (the_in n m.Shortest) (seq_gives n number_in (seq_gives n mode_and_noun_in (opt_gives n (either_gives n (the_in n m.Group) (the_in n m.Groups))))))
       (λ at end le d h. shortest_of_in at h.middle h.second.middle h.second.second.middle end d.0 d.1.0 d.1.1.0 d.1.1.1
       h.lower h.second.lower h.second.second.lower h.second.second.upper h.first h.second.first h.second.second.first h.second.second.second)
 
@@ -223,7 +240,8 @@ module _ (n : ℕ) where
 
 -- ---- paths
 
-path_span : (at x y end : ℕ) (v : Option Named) (p : Option Prefix) (body : Span) → at ≤ x → x ≤ y → y ≤ end → IfGiven (Spans of_name) at x v → IfGiven PrefixIn x y p → In y end body →
+path_span : (at x y end : ℕ) (v : Option Named) (p : Option Prefix) (body : Span) → at ≤ x → x ≤ y → y ≤ end → IfGiven (Spans of_name) at x v → IfGiven PrefixIn x y p →
+    In y end body →
     In at end (record { from = path_from v p body; to = body.to })
 path_span at x y end (Some v) p body l w u h i j = record { from = h.0.from; ordered = omega (arith, h.0.ordered, h.0.to, w, j.from, j.ordered); to = j.to }
 path_span at x y end None (Some p) body l w u h i j = record { from = omega (arith, l, i.lower); ordered = omega (arith, i.upper, j.from, j.ordered); to = j.to }
@@ -233,7 +251,8 @@ prefix_spans : (at end : ℕ) (p : Option Prefix) → IfGiven PrefixIn at end p 
 prefix_spans at end None h = tt
 prefix_spans at end (Some p) h = h.spans
 
-path_all : (at end : ℕ) (d : Option Named × (Option Prefix × Placed Union)) → Both (IfGiven (Spans of_name)) (Both (IfGiven PrefixIn) (Spans (of_placed of_union))) at end d → AllIn at end (of_path (path_of d.0 d.1.0 d.1.1))
+path_all : (at end : ℕ) (d : Option Named × (Option Prefix × Placed Union)) → Both (IfGiven (Spans of_name))
+    (Both (IfGiven PrefixIn) (Spans (of_placed of_union))) at end d → AllIn at end (of_path (path_of d.0 d.1.0 d.1.1))
 path_all at end d h =
     let s = if_given of_selector (selector_in d.1.0) in
     let o = if_given of_mode (mode_of d.1.0) in
@@ -241,16 +260,19 @@ path_all at end d h =
     let rest : AllIn at end ((s ++ o) ++ b) = all_append at end (s ++ o) b (all_wider h.lower h.second.upper (s ++ o) (prefix_spans h.middle h.second.middle d.1.0 h.second.first))
         (all_wider (omega (arith, h.lower, h.second.lower)) (omega arith) b h.second.second.1) in
     (path_span at h.middle h.second.middle end d.0 d.1.0 d.1.1.span h.lower h.second.lower h.second.upper h.first h.second.first h.second.second.0,
-    all_append at end (if_given of_name d.0) (s ++ (o ++ b)) (all_wider (omega arith) h.upper (if_given of_name d.0) (given_all of_name at h.middle d.0 h.first)) (subst (AllIn at end) (append_assoc s o b) rest))
+    all_append at end (if_given of_name d.0) (s ++ (o ++ b)) (all_wider (omega arith) h.upper (if_given of_name d.0) (given_all of_name at h.middle d.0 h.first))
+        (subst (AllIn at end) (append_assoc s o b) rest))
 
-module _ (n : ℕ) (part_inner : Given (within class inside n (Inside.own Own.part)) (Spans of_part_content)) (filler_inner : Given (within class inside n (Inside.own Own.filler)) (Spans of_content)) where
+module _ (n : ℕ) (part_inner : Given (within class inside n (Inside.own Own.part)) (Spans of_part_content))
+    (filler_inner : Given (within class inside n (Inside.own Own.filler)) (Spans of_content)) where
   part_or_vertex_in : Gives n part_or_vertex (Spans (of_placed of_factor))
   unfolding part_or_vertex
   part_or_vertex_in = fork_gives n (Spans of_part_content) (Spans of_content) part_inner (opt_gives n (quantifier_in n)) filler_inner part_at_in vertex_at_in
 
   factor_in : Gives n factor (Spans (of_placed of_factor))
   unfolding factor
-  factor_in = either_gives n part_or_vertex_in (mapped_gives n (seq_gives n (edge_in n filler_inner) (opt_gives n (quantifier_in n))) (λ at end le d h. edge_at_in at h.middle end d.0 d.1 h.lower h.upper h.first h.second))
+  factor_in = either_gives n part_or_vertex_in (mapped_gives n (seq_gives n (edge_in n filler_inner) (opt_gives n (quantifier_in n)))
+      (λ at end le d h. edge_at_in at h.middle end d.0 d.1 h.lower h.upper h.first h.second))
 
   sequence_in_order : Gives n sequence (Spans (of_placed of_sequence))
   unfolding sequence
@@ -258,7 +280,9 @@ module _ (n : ℕ) (part_inner : Given (within class inside n (Inside.own Own.pa
 
   joint_in_order : Gives n joint JointIn
   unfolding joint
-  joint_in_order = mapped_gives n (seq_gives n (the_in n m.VerticalBar) (opt_gives n (mapped_gives n (seq_gives n (any_gives n) (the_in n m.VerticalBar)) (λ at end le d h. wider h.lower (omega arith) h.second))))
+  joint_in_order = mapped_gives n
+      (seq_gives n (the_in n m.VerticalBar)
+      (opt_gives n (mapped_gives n (seq_gives n (any_gives n) (the_in n m.VerticalBar)) (λ at end le d h. wider h.lower (omega arith) h.second))))
       (λ at end le d h. joint_all at h.middle end d.0 d.1 h.upper h.first h.second)
 
   pub union_in : Gives n union (Spans (of_placed of_union))
@@ -267,5 +291,6 @@ module _ (n : ℕ) (part_inner : Given (within class inside n (Inside.own Own.pa
 
   pub path_in : Gives n path (Spans of_path)
   unfolding path
-  path_in = mapped_gives n (seq_gives n (opt_gives n (mapped_gives n (seq_gives n (name_in n) (any_gives n)) (λ at end le d h. left_all of_name (λ a b i. i) h))) (seq_gives n (opt_gives n (prefix_in n)) union_in))
+  path_in = mapped_gives n (seq_gives n (opt_gives n (mapped_gives n (seq_gives n (name_in n) (any_gives n)) (λ at end le d h. left_all of_name (λ a b i. i) h)))
+      (seq_gives n (opt_gives n (prefix_in n)) union_in))
       (λ at end le d h. path_all at end d h)

@@ -90,7 +90,8 @@ module _ (n : ℕ) where
   pub one_gives : {V : Type 0} {f : ℕ → Bool} {v : Token → V} {P : Holds V} → ((t : Token) (at end : ℕ) → In at end t.span → P at end (v t)) → Gives n (one f v) P
   one_gives h = record { holds = λ d at end i. h d.0 at end (record { from = i.0; ordered = omega (arith, i.1); to = i.2 }) }
 
-  pub mapped_gives : {A V : Type 0} {r : Production A} {P : Holds A} {f : A → V} {Q : Holds V} → Gives n r P → ((at end : ℕ) → at ≤ end → (a : A) → P at end a → Q at end (f a)) → Gives n (mapped f r) Q
+  pub mapped_gives : {A V : Type 0} {r : Production A} {P : Holds A} {f : A → V} {Q : Holds V} → Gives n r P →
+      ((at end : ℕ) → at ≤ end → (a : A) → P at end a → Q at end (f a)) → Gives n (mapped f r) Q
   mapped_gives {A} {V} {r} g h = record { holds = λ d at end i. h at end (not_before at end ((text_of n r).tokens d) i) ((text_of n r).value d) (g.holds d at end i) }
 
   pub seq_gives : {A B : Type 0} {r : Production A} {s : Production B} {P : Holds A} {Q : Holds B} → Gives n r P → Gives n s Q → Gives n (seq r s) (Both P Q)
@@ -148,10 +149,12 @@ module _ (n : ℕ) where
         }
 
   -- the two ways of a fork
-  pub fork_gives : {o c : ℕ} {f : ℕ → Bool} {k j : Inside Own} {B V : Type 0} {r : Production B} {one_way : Span → HeldInside k × (Span × B) → V} {other_way : Span → HeldInside j × Span → V}
+  pub fork_gives : {o c : ℕ} {f : ℕ → Bool} {k j : Inside Own} {B V : Type 0} {r : Production B} {one_way : Span → HeldInside k × (Span × B) → V} {other_way : Span →
+      HeldInside j × Span → V}
       {R : Holds B} {W : Holds V} (P : Holds (HeldInside k)) (Q : Holds (HeldInside j)) →
       Given (within class inside n k) P → Gives n r R → Given (within class inside n j) Q →
-      ((at x y z end : ℕ) (first : Span) (d : HeldInside k × (Span × B)) → In at x first → x ≤ y → P x y d.0 → In y z d.1.0 → z ≤ end → R z end d.1.1 → W at end (one_way first d)) →
+      ((at x y z end : ℕ) (first : Span) (d : HeldInside k × (Span × B)) → In at x first → x ≤ y → P x y d.0 → In y z d.1.0 → z ≤ end → R z end d.1.1 →
+          W at end (one_way first d)) →
       ((at x y end : ℕ) (first : Span) (d : HeldInside j × Span) → In at x first → x ≤ y → Q x y d.0 → In y end d.1 → W at end (other_way first d)) →
       Gives n (fork span_of o c f k r one_way j other_way) W
   fork_gives {o} {c} {f} {k} {j} {B} {V} {r} {one_way} {other_way} {R} {W} P Q g h i one_holds other_holds = record { holds = by } where

@@ -25,7 +25,8 @@ folded-factors : (factors : List Factor) (from to : ℕ) (x : Placed Factor) (mo
     run_of (factors ++ map node_of more) from (last_place x more).to ≡ folded with_factor (run_of factors from to) more
 folded-factors factors from to x [] h = same_run (factors ++ []) factors from x.span.to to (append-nil factors) (sym h)
 folded-factors factors from to x (y ∷ more) h =
-    same_run (factors ++ y.node ∷ map node_of more) ((factors ++ y.node ∷ []) ++ map node_of more) from (last_place y more).to (last_place y more).to (sym (append_assoc factors (y.node ∷ []) (map node_of more))) refl
+    same_run (factors ++ y.node ∷ map node_of more) ((factors ++ y.node ∷ []) ++ map node_of more) from (last_place y more).to (last_place y more).to
+        (sym (append_assoc factors (y.node ∷ []) (map node_of more))) refl
     ∙ folded-factors (factors ++ y.node ∷ []) from y.span.to y more refl
 
 abbrev pub first_run : Placed Factor → Run
@@ -37,7 +38,8 @@ sequence_from run = placed (sequence_of run.factors) run.span
 abbrev pub sequence_value : Placed Factor × List (Placed Factor) → Placed Sequence
 sequence_value d = placed (sequence_of (d.0.node ∷ map node_of d.1)) (reach_over d.0 d.1)
 
-pub sequence_made : (x : Placed Factor) (more : List (Placed Factor)) → sequence_value (let p : Placed Factor × List (Placed Factor) = (x, more) in p) ≡ sequence_from (folded with_factor (first_run x) more)
+pub sequence_made : (x : Placed Factor) (more : List (Placed Factor)) → sequence_value (let p : Placed Factor × List (Placed Factor) = (x, more) in p) ≡ sequence_from
+    (folded with_factor (first_run x) more)
 sequence_made x more = ap sequence_from (folded-factors (x.node ∷ []) x.span.from x.span.to x more refl)
 
 abbrev operands_of : List Sequence → List Joint → ℕ → ℕ → Operands
@@ -50,8 +52,10 @@ folded-operands : (ss : List Sequence) (js : List Joint) (from to : ℕ) (x : Pl
     operands_of (ss ++ map sequence_in more) (js ++ map joint_in more) from (last_place x (map operand_in more)).to ≡ folded with_operand (operands_of ss js from to) more
 folded-operands ss js from to x [] h = same_operands (ss ++ []) ss (js ++ []) js from x.span.to to (append-nil ss) (append-nil js) (sym h)
 folded-operands ss js from to x (y ∷ more) h =
-    same_operands (ss ++ y.1.node ∷ map sequence_in more) ((ss ++ y.1.node ∷ []) ++ map sequence_in more) (js ++ y.0 ∷ map joint_in more) ((js ++ y.0 ∷ []) ++ map joint_in more) from
-    (last_place y.1 (map operand_in more)).to (last_place y.1 (map operand_in more)).to (sym (append_assoc ss (y.1.node ∷ []) (map sequence_in more))) (sym (append_assoc js (y.0 ∷ []) (map joint_in more))) refl
+    same_operands (ss ++ y.1.node ∷ map sequence_in more) ((ss ++ y.1.node ∷ []) ++ map sequence_in more) (js ++ y.0 ∷ map joint_in more)
+        ((js ++ y.0 ∷ []) ++ map joint_in more) from
+    (last_place y.1 (map operand_in more)).to (last_place y.1 (map operand_in more)).to (sym (append_assoc ss (y.1.node ∷ []) (map sequence_in more)))
+        (sym (append_assoc js (y.0 ∷ []) (map joint_in more))) refl
     ∙ folded-operands (ss ++ y.1.node ∷ []) (js ++ y.0 ∷ []) from y.1.span.to y.1 more refl
 
 abbrev pub first_operand : Placed Sequence → Operands
@@ -63,5 +67,6 @@ union_from all = placed (roll-Union (record { operands = all.operands; joints = 
 abbrev pub union_value : Placed Sequence × List Joined → Placed Union
 union_value d = placed (union_of d.0.node d.1) (reach_over d.0 (map operand_in d.1))
 
-pub union_made : (x : Placed Sequence) (more : List Joined) → union_value (let p : Placed Sequence × List Joined = (x, more) in p) ≡ union_from (folded with_operand (first_operand x) more)
+pub union_made : (x : Placed Sequence) (more : List Joined) → union_value (let p : Placed Sequence × List Joined = (x, more) in p) ≡ union_from
+    (folded with_operand (first_operand x) more)
 union_made x more = ap union_from (folded-operands (x.node ∷ []) [] x.span.from x.span.to x more refl)

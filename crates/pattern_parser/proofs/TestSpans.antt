@@ -55,15 +55,18 @@ module _ (n : ℕ) where
   literals_in : Gives n (g.literals PropertyRef Own HeldOwn) TreeIn
   unfolding g.literals
   literals_in = either_gives n (one_gives n (λ t at end h. literal_in at end t.span _ h))
-      (either_gives n (mapped_gives n (seq_gives n (the_in n m.Minus) (one_gives n {P = TokenIn} (λ t at end h. h))) (λ at end le d h. literal_in at end (reach d.0 d.1.span) _ (reaches h.first h.second)))
+      (either_gives n (mapped_gives n (seq_gives n (the_in n m.Minus) (one_gives n {P = TokenIn} (λ t at end h. h)))
+          (λ at end le d h. literal_in at end (reach d.0 d.1.span) _ (reaches h.first h.second)))
       (either_gives n (one_gives n (λ t at end h. literal_in at end t.span _ h))
-      (either_gives n (mapped_gives n (the_in n m.True) (λ at end le s h. literal_in at end s _ h)) (mapped_gives n (the_in n m.False) (λ at end le s h. literal_in at end s _ h)))))
+      (either_gives n (mapped_gives n (the_in n m.True) (λ at end le s h. literal_in at end s _ h))
+          (mapped_gives n (the_in n m.False) (λ at end le s h. literal_in at end s _ h)))))
 
   dotted_in : Gives n dotted NamesTree
   unfolding g.dotted
   dotted_in = mapped_gives n (seq_gives n (the_in n m.Period) (name_in n)) (λ at end le d h start name i.
       let p : In at end d.1.span = wider h.lower (omega arith) h.second.0 in
-      leaf_in start end (reach name.span d.1.span) (leaf_of name d.1) (reaches i p) (wider (omega arith) le i, (wider (omega (arith, i.from, i.ordered, i.to)) (omega arith) p, tt)))
+      leaf_in start end (reach name.span d.1.span) (leaf_of name d.1) (reaches i p) (wider
+          (omega arith) le i, (wider (omega (arith, i.from, i.ordered, i.to)) (omega arith) p, tt)))
 
   date_text_in : Gives n date_text NamesTree
   unfolding g.date_text
@@ -89,12 +92,14 @@ module _ (n : ℕ) where
   truth_test_in : Gives n truth_test TailIn
   unfolding g.truth_test
   truth_test_in = mapped_gives n (seq_gives n (any_gives n) (seq_gives n (any_gives n) truth_word_in))
-      (λ at end le d h start c i. tested_in start h.second.middle end d.1.1.0 d.1.0 d.1.1.1 c (omega (arith, h.lower, h.second.lower, i.own.from, i.own.ordered, i.own.to)) h.second.upper
+      (λ at end le d h start c i. tested_in start h.second.middle end d.1.1.0 d.1.0 d.1.1.1 c
+          (omega (arith, h.lower, h.second.lower, i.own.from, i.own.ordered, i.own.to)) h.second.upper
       (tree_wider (omega arith) (omega (arith, h.lower, h.second.lower)) c i) h.second.second)
 
 -- ---- predicates on elements
 
-predicate_in : (at end : ℕ) (span : Span) (first w : Named) (t : ElementTest) → In at end span → In at end first.span → In at end w.span → AllIn at end (of_test t) → TreeIn at end (predicate span first w t)
+predicate_in : (at end : ℕ) (span : Span) (first w : Named) (t : ElementTest) → In at end span → In at end first.span → In at end w.span → AllIn at end (of_test t) →
+    TreeIn at end (predicate span first w t)
 predicate_in at end span first w t h i j k = leaf_in at end span (record { variable = first; property = w; test = Some t }) h (i, (j, k))
 
 not_when_in : (at end : ℕ) (negated : Bool) (span : Span) (c : Tree) → In at end span → TreeIn at end c → TreeIn at end (not_when negated span c)
@@ -105,18 +110,22 @@ not_when_in at end true span c h i = negated_in at end span c h i
 abbrev RelatedIn : Holds (Bool → OfName)
 RelatedIn at end f = (b : Bool) → NamesTree at end (f b)
 
-source_in : (at end start : ℕ) (w edge vertex : Named) (b : Bool) → at ≤ end → In at end w.span → In at end edge.span → In start at vertex.span → TreeIn start end (related SourceOf w edge b vertex)
+source_in : (at end start : ℕ) (w edge vertex : Named) (b : Bool) → at ≤ end → In at end w.span → In at end edge.span → In start at vertex.span →
+    TreeIn start end (related SourceOf w edge b vertex)
 source_in at end start w edge vertex b le h i j =
     let l : start ≤ at = omega (arith, j.from, j.ordered, j.to) in
     let own = reaches j i in
-    not_when_in start end b (reach vertex.span edge.span) _ own (predicate_in start end (reach vertex.span edge.span) vertex w (SourceOf vertex edge) own (wider (omega arith) le j) (wider l (omega arith) h)
+    not_when_in start end b (reach vertex.span edge.span) _ own (predicate_in start end (reach vertex.span edge.span) vertex w (SourceOf vertex edge) own
+        (wider (omega arith) le j) (wider l (omega arith) h)
     (wider (omega arith) le j, (wider l (omega arith) i, tt)))
 
-destination_in : (at end start : ℕ) (w edge vertex : Named) (b : Bool) → at ≤ end → In at end w.span → In at end edge.span → In start at vertex.span → TreeIn start end (related DestinationOf w edge b vertex)
+destination_in : (at end start : ℕ) (w edge vertex : Named) (b : Bool) → at ≤ end → In at end w.span → In at end edge.span → In start at vertex.span →
+    TreeIn start end (related DestinationOf w edge b vertex)
 destination_in at end start w edge vertex b le h i j =
     let l : start ≤ at = omega (arith, j.from, j.ordered, j.to) in
     let own = reaches j i in
-    not_when_in start end b (reach vertex.span edge.span) _ own (predicate_in start end (reach vertex.span edge.span) vertex w (DestinationOf vertex edge) own (wider (omega arith) le j) (wider l (omega arith) h)
+    not_when_in start end b (reach vertex.span edge.span) _ own (predicate_in start end (reach vertex.span edge.span) vertex w (DestinationOf vertex edge) own
+        (wider (omega arith) le j) (wider l (omega arith) h)
     (wider (omega arith) le j, (wider l (omega arith) i, tt)))
 
 names_all : (at end : ℕ) (names : List Named) → Chain (Spans of_name) at end names → AllIn at end (of_names names)
@@ -140,10 +149,14 @@ grouped_in : (at end start : ℕ) (d : Span × List Named × Span) (w : Named) �
 grouped_in at end start d w h i =
     let l : start ≤ h.left = omega (arith, i.from, i.ordered, i.to, h.opening.from, h.opening.ordered, h.opening.to) in
     let u : h.right ≤ end = omega (arith, h.closing.from, h.closing.ordered, h.closing.to) in
-    let own : In start end (reach w.span d.2) = record { from = i.from; ordered = omega (arith, i.ordered, i.to, h.opening.from, h.opening.ordered, h.opening.to, h.between, h.closing.from, h.closing.ordered); to = h.closing.to } in
+    let own : In start end
+        (reach w.span d.2) = record
+        { from = i.from; ordered = omega (arith, i.ordered, i.to, h.opening.from, h.opening.ordered, h.opening.to, h.between, h.closing.from, h.closing.ordered);
+        to = h.closing.to } in
     let names = all_wider l u (of_names d.1) h.held in
     let own_word : In start end w.span = wider (omega arith) (omega (arith, h.opening.from, h.opening.ordered, h.opening.to, h.between, u)) i in
-    predicate_in start end (reach w.span d.2) (first_of w d.1) w (group_test w.name d.1) own (first_of_in start end w d.1 own_word names) own_word (group_test_in start end w.name d.1 names)
+    predicate_in start end (reach w.span d.2) (first_of w d.1) w (group_test w.name d.1) own (first_of_in start end w d.1 own_word names) own_word
+        (group_test_in start end w.name d.1 names)
 
 -- what may follow in a test, behind what was made of a name
 with_tail_in : (n : ℕ) {tail : Production (Tail PropertyRef)} {x : Production OfName} → Gives n tail TailIn → Gives n x NamesTree → Gives n (with_tail tail x) NamesTree
@@ -171,7 +184,8 @@ HeldIn (Inside.own Own.table) = Spans of_tree
 module _ (n : ℕ) (inner : (k : Inside Own) → Given (within class inside n k) (HeldIn k)) where
   coalesce_in : Gives n (g.coalesce PropertyRef Own HeldOwn) TreeIn
   unfolding g.coalesce
-  coalesce_in = mapped_gives n (seq_gives n (the_in n m.Coalesce) (nest_gives n (inner Inside.members))) (λ at end le d h. coalesced_in at h.middle end d.0 d.1 h.lower h.upper h.first h.second)
+  coalesce_in = mapped_gives n (seq_gives n (the_in n m.Coalesce) (nest_gives n (inner Inside.members)))
+      (λ at end le d h. coalesced_in at h.middle end d.0 d.1 h.lower h.upper h.first h.second)
 
   parens_in : Gives n (g.parens PropertyRef Own HeldOwn) TreeIn
   unfolding g.parens
@@ -184,7 +198,8 @@ module _ (n : ℕ) (inner : (k : Inside Own) → Given (within class inside n k)
   comparing_in : Gives n (g.comparing PropertyRef Own HeldOwn own_operand) TailIn
   unfolding g.comparing
   comparing_in = mapped_gives n (seq_gives n (any_gives n) operand_in)
-      (λ at end le d h start c i. compared_in start h.middle end d.0 c d.1 (omega (arith, h.lower, i.own.from, i.own.ordered, i.own.to)) h.upper (tree_wider (omega arith) h.lower c i) h.second)
+      (λ at end le d h start c i. compared_in start h.middle end d.0 c d.1 (omega (arith, h.lower, i.own.from, i.own.ordered, i.own.to)) h.upper
+          (tree_wider (omega arith) h.lower c i) h.second)
 
   between_in : (at end : ℕ) (d : Span × (Tree × (Span × Tree))) → Both In (Both TreeIn (Both In TreeIn)) at end d → SignedTail at end (λ negated. ranged negated d.1.0 d.1.1.1)
   between_in at end d h negated start c i = ranged_in start h.middle h.second.middle end negated c d.1.0 d.1.1.1
@@ -195,11 +210,13 @@ module _ (n : ℕ) (inner : (k : Inside Own) → Given (within class inside n k)
   within_in at end d h negated start c i =
       let e = h.second in
       let l : at ≤ e.left = omega (arith, h.lower, e.opening.from, e.opening.ordered, e.opening.to) in
-      listed_in start at e.left e.right end negated c d.1.1 d.1.2 (omega (arith, i.own.from, i.own.ordered, i.own.to)) l e.between (omega (arith, e.closing.from, e.closing.ordered, e.closing.to)) i e.held e.closing
+      listed_in start at e.left e.right end negated c d.1.1 d.1.2 (omega (arith, i.own.from, i.own.ordered, i.own.to)) l e.between
+          (omega (arith, e.closing.from, e.closing.ordered, e.closing.to)) i e.held e.closing
 
   including_in : Gives n (g.including PropertyRef Own HeldOwn own_operand) SignedTail
   unfolding g.including
-  including_in = either_gives n (mapped_gives n (seq_gives n (the_in n m.Between) (seq_gives n operand_in (seq_gives n (the_in n m.And) operand_in))) (λ at end le d h. between_in at end d h))
+  including_in = either_gives n (mapped_gives n (seq_gives n (the_in n m.Between) (seq_gives n operand_in (seq_gives n (the_in n m.And) operand_in)))
+      (λ at end le d h. between_in at end d h))
       (mapped_gives n (seq_gives n (the_in n m.In) (nest_gives n (inner Inside.operands))) (λ at end le d h. within_in at end d h))
 
   predicate_tail_in : Gives n (g.predicate_tail PropertyRef Own HeldOwn own_operand) TailIn
@@ -207,7 +224,8 @@ module _ (n : ℕ) (inner : (k : Inside Own) → Given (within class inside n k)
   predicate_tail_in = either_gives n comparing_in (either_gives n (mapped_gives n including_in (λ at end le f h. h false))
       (mapped_gives n (seq_gives n (any_gives n) including_in) (λ at end le d h start c i. h.second true start c (tree_wider (omega arith) h.lower c i))))
 
-  null_in : (at end : ℕ) (d : Span × Option (Tail PropertyRef)) → Both In (IfGiven TailIn) at end d → SignedTail at end (λ negated c. unless_none d.1 (tested test_is.Null negated d.0 c))
+  null_in : (at end : ℕ) (d : Span × Option (Tail PropertyRef)) → Both In (IfGiven TailIn) at end d →
+      SignedTail at end (λ negated c. unless_none d.1 (tested test_is.Null negated d.0 c))
   null_in at end d h negated start c i = unless_none_in h.middle h.middle end start d.1 (tested test_is.Null negated d.0 c) (omega arith) h.upper
       (tested_in start at h.middle test_is.Null negated d.0 c (omega (arith, i.own.from, i.own.ordered, i.own.to)) h.lower i h.first) h.second
 
@@ -229,8 +247,10 @@ module _ (n : ℕ) (inner : (k : Inside Own) → Given (within class inside n k)
   end_of_edge_in : Gives n end_of_edge RelatedIn
   unfolding end_of_edge
   end_of_edge_in = either_gives n
-      (mapped_gives n (seq_gives n (named_in n) (after_in n of_name (name_in n))) (λ at end le d h b start v i. source_in at end start d.0 d.1 v b le (wider (omega arith) h.upper h.first.0) (wider h.lower (omega arith) h.second.0) i))
-      (mapped_gives n (seq_gives n (named_in n) (after_in n of_name (name_in n))) (λ at end le d h b start v i. destination_in at end start d.0 d.1 v b le (wider (omega arith) h.upper h.first.0) (wider h.lower (omega arith) h.second.0) i))
+      (mapped_gives n (seq_gives n (named_in n) (after_in n of_name (name_in n))) (λ at end le d h b start v i. source_in at end start d.0 d.1 v b le
+          (wider (omega arith) h.upper h.first.0) (wider h.lower (omega arith) h.second.0) i))
+      (mapped_gives n (seq_gives n (named_in n) (after_in n of_name (name_in n))) (λ at end le d h b start v i. destination_in at end start d.0 d.1 v b le
+          (wider (omega arith) h.upper h.first.0) (wider h.lower (omega arith) h.second.0) i))
 
   relation_in : Gives n relation NamesTree
   unfolding relation
@@ -244,7 +264,8 @@ module _ (n : ℕ) (inner : (k : Inside Own) → Given (within class inside n k)
 
   after_group_word_in : Gives n after_group_word NamesTree
   unfolding after_group_word
-  after_group_word_in = with_tail_in n (truth_test_in n) (mapped_gives n (nest_gives n (inner (Inside.own Own.variables))) (λ at end le d h start w i. grouped_in at end start d w h i))
+  after_group_word_in = with_tail_in n (truth_test_in n) (mapped_gives n (nest_gives n (inner (Inside.own Own.variables)))
+      (λ at end le d h start w i. grouped_in at end start d w h i))
 
   unnamed_operand_in : Gives n unnamed_operand TreeIn
   unfolding unnamed_operand
@@ -262,15 +283,18 @@ module _ (n : ℕ) (inner : (k : Inside Own) → Given (within class inside n k)
 
   pub negation_in : Gives n negation TreeIn
   unfolding g.negation
-  negation_in = mapped_gives n (seq_gives n (opt_gives n (the_in n m.Not)) (test_from_in is_plain)) (λ at end le d h. not_if_in at h.middle end d.0 d.1 h.lower h.upper h.first h.second)
+  negation_in = mapped_gives n (seq_gives n (opt_gives n (the_in n m.Not)) (test_from_in is_plain))
+      (λ at end le d h. not_if_in at h.middle end d.0 d.1 h.lower h.upper h.first h.second)
 
   conjunction_in : Gives n conjunction TreeIn
   unfolding g.conjunction
-  conjunction_in = mapped_gives n (seq_gives n negation_in (many_gives n (after_tree negation_in))) (λ at end le d h. all_of_in at h.middle end d.0 d.1 h.lower h.upper h.first h.second)
+  conjunction_in = mapped_gives n (seq_gives n negation_in (many_gives n (after_tree negation_in)))
+      (λ at end le d h. all_of_in at h.middle end d.0 d.1 h.lower h.upper h.first h.second)
 
   pub condition_in : Gives n condition TreeIn
   unfolding g.search_condition
-  condition_in = mapped_gives n (seq_gives n conjunction_in (many_gives n (after_tree conjunction_in))) (λ at end le d h. any_of_in at h.middle end d.0 d.1 h.lower h.upper h.first h.second)
+  condition_in = mapped_gives n (seq_gives n conjunction_in (many_gives n (after_tree conjunction_in)))
+      (λ at end le d h. any_of_in at h.middle end d.0 d.1 h.lower h.upper h.first h.second)
 
   -- what follows the first member of a condition that stands before
   pub more_members_in : Gives n more_members TailIn
@@ -281,7 +305,8 @@ module _ (n : ℕ) (inner : (k : Inside Own) → Given (within class inside n k)
 
   -- lists of operands
   pub operands_in : Gives n (list (g.operand PropertyRef Own HeldOwn own_operand)) ListIn
-  operands_in = mapped_gives n (seq_gives n operand_in (many_gives n (after_tree operand_in))) (λ at end le d h. consed at h.middle end d.0 d.1 h.lower h.upper h.first (chain_list h.middle end d.1 h.second))
+  operands_in = mapped_gives n (seq_gives n operand_in (many_gives n (after_tree operand_in)))
+      (λ at end le d h. consed at h.middle end d.0 d.1 h.lower h.upper h.first (chain_list h.middle end d.1 h.second))
 
   pub members_in : Gives n (g.two_or_more PropertyRef Own HeldOwn (g.operand PropertyRef Own HeldOwn own_operand)) ListIn
   members_in = mapped_gives n (seq_gives n operand_in (mapped_gives n (seq_gives n (any_gives n) operands_in) (λ at end le d h. list_wider h.lower (omega arith) d.1 h.second)))

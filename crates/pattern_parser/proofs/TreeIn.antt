@@ -73,9 +73,11 @@ pub chain_list : (at end : ℕ) (cs : List Tree) → Chain TreeIn at end cs → 
 chain_list at end [] h = record { nodes = tt; leaves = tt }
 chain_list at end (c ∷ cs) (middle, l, u, first, rest) = consed at middle end c cs l u first (chain_list middle end cs rest)
 
-last_reaches : (at end start : ℕ) (c : Tree) (cs : List Tree) → start ≤ (span_of c).to → (span_of c).to ≤ at → at ≤ end → Chain TreeIn at end cs → (start ≤ (last_span c cs).to) × ((last_span c cs).to ≤ end)
+last_reaches : (at end start : ℕ) (c : Tree) (cs : List Tree) → start ≤ (span_of c).to → (span_of c).to ≤ at → at ≤ end → Chain TreeIn at end cs →
+    (start ≤ (last_span c cs).to) × ((last_span c cs).to ≤ end)
 last_reaches at end start c [] s t u h = (s, omega (arith, t, u))
-last_reaches at end start c (d ∷ ds) s t u (middle, l, w, first, rest) = last_reaches middle end start d ds (omega (arith, s, t, first.own.from, first.own.ordered)) first.own.to w rest
+last_reaches at end start c (d ∷ ds) s t u (middle, l, w, first, rest) = last_reaches middle end start d ds
+    (omega (arith, s, t, first.own.from, first.own.ordered)) first.own.to w rest
 
 from_to_last : (at middle end : ℕ) (c : Tree) (cs : List Tree) → middle ≤ end → TreeIn at middle c → Chain TreeIn middle end cs → In at end (reach (span_of c) (last_span c cs))
 from_to_last at middle end c cs u h i =
@@ -127,15 +129,19 @@ rest_in at end (s ∷ spans) h = h.1
 
 pub enclosed_in : (at end : ℕ) (d : Span × Tree × Span) → Bracketed TreeIn at end d → TreeIn at end (enclosed d.0 d.2 d.1)
 enclosed_in at end d h =
-    let c : TreeIn at end d.1 = tree_wider (omega (arith, h.opening.from, h.opening.ordered, h.opening.to)) (omega (arith, h.closing.from, h.closing.ordered, h.closing.to)) d.1 h.held in
-    let own : In at end (reach d.0 d.2) = record { from = h.opening.from; ordered = omega (arith, h.opening.ordered, h.opening.to, h.held.own.from, h.held.own.ordered, h.held.own.to, h.closing.from, h.closing.ordered); to = h.closing.to } in
+    let c : TreeIn at end d.1 = tree_wider (omega (arith, h.opening.from, h.opening.ordered, h.opening.to))
+        (omega (arith, h.closing.from, h.closing.ordered, h.closing.to)) d.1 h.held in
+    let own : In at end (reach d.0 d.2) = record
+        { from = h.opening.from; ordered = omega
+        (arith, h.opening.ordered, h.opening.to, h.held.own.from, h.held.own.ordered, h.held.own.to, h.closing.from, h.closing.ordered); to = h.closing.to } in
     record { own = own; nodes = (own, rest_in at end d.1.spans c.nodes); leaves = c.leaves }
 
 -- what makes a test of an operand that stands before
 abbrev pub TailIn : Holds (Tail PropertyRef)
 TailIn at end tail = (start : ℕ) (c : Tree) → TreeIn start at c → TreeIn start end (tail c)
 
-pub unless_none_in : (at middle end start : ℕ) (o : Option (Tail PropertyRef)) (c : Tree) → at ≤ middle → middle ≤ end → TreeIn start middle c → IfGiven TailIn middle end o → TreeIn start end (unless_none o c)
+pub unless_none_in : (at middle end start : ℕ) (o : Option (Tail PropertyRef)) (c : Tree) → at ≤ middle → middle ≤ end → TreeIn start middle c →
+    IfGiven TailIn middle end o → TreeIn start end (unless_none o c)
 unless_none_in at middle end start None c l u h i = tree_wider (omega arith) u c h
 unless_none_in at middle end start (Some tail) c l u h i = i start c h
 
@@ -145,7 +151,8 @@ compared_in at middle end op a b l u h i =
     record {
       own = own;
       nodes = (own, all_append at end a.spans (b.spans ++ []) (all_wider (omega arith) u a.spans h.nodes) (all_wider l (omega arith) (b.spans ++ []) (over_one middle end b i)));
-      leaves = leaves_at at end (v.Compare op a.tree b.tree) (leaves_in a.tree ++ leaves_in b.tree) (at_layer leaves_step (Expr-F.Compare op a.tree b.tree) _ (v.rolls-Compare op a.tree b.tree))
+      leaves = leaves_at at end (v.Compare op a.tree b.tree) (leaves_in a.tree ++ leaves_in b.tree)
+          (at_layer leaves_step (Expr-F.Compare op a.tree b.tree) _ (v.rolls-Compare op a.tree b.tree))
           (two at end (leaves_in a.tree) (leaves_in b.tree) (all_wider (omega arith) u (leaf_spans a.tree) h.leaves) (all_wider l (omega arith) (leaf_spans b.tree) i.leaves));
     }
 
@@ -159,10 +166,12 @@ ranged_in at x y end negated a b c l w u h i j =
       leaves = leaves_at at end (v.Between a.tree b.tree c.tree negated) (leaves_in a.tree ++ (leaves_in b.tree ++ leaves_in c.tree))
           (at_layer leaves_step (Expr-F.Between a.tree b.tree c.tree negated) _ (v.rolls-Between a.tree b.tree c.tree negated))
           (two at end (leaves_in a.tree) (leaves_in b.tree ++ leaves_in c.tree) (all_wider (omega arith) (omega (arith, w, u)) (leaf_spans a.tree) h.leaves)
-          (two at end (leaves_in b.tree) (leaves_in c.tree) (all_wider l u (leaf_spans b.tree) i.leaves) (all_wider (omega (arith, l, w)) (omega arith) (leaf_spans c.tree) j.leaves)));
+          (two at end (leaves_in b.tree) (leaves_in c.tree) (all_wider l u (leaf_spans b.tree) i.leaves)
+              (all_wider (omega (arith, l, w)) (omega arith) (leaf_spans c.tree) j.leaves)));
     }
 
-pub listed_in : (at middle x y end : ℕ) (negated : Bool) (a : Tree) (bs : List Tree) (closing : Span) → at ≤ middle → middle ≤ x → x ≤ y → y ≤ end → TreeIn at middle a → ListIn x y bs → In y end closing →
+pub listed_in : (at middle x y end : ℕ) (negated : Bool) (a : Tree) (bs : List Tree) (closing : Span) → at ≤ middle → middle ≤ x → x ≤ y → y ≤ end → TreeIn at middle a →
+    ListIn x y bs → In y end closing →
     TreeIn at end (listed negated bs closing a)
 listed_in at middle x y end negated a bs closing l w o u h i j =
     let own : In at end (reach (span_of a) closing) = reaches (wider (omega arith) (omega (arith, w, o)) h.own) j in
@@ -176,7 +185,8 @@ listed_in at middle x y end negated a bs closing l w o u h i j =
           (two at end (leaves_in a.tree) (joined (map leaves_in (map tree_of bs))) c.leaves all.leaves);
     }
 
-pub tested_in : (at middle end : ℕ) (test : Test) (negated : Bool) (word : Span) (a : Tree) → at ≤ middle → middle ≤ end → TreeIn at middle a → In middle end word → TreeIn at end (tested test negated word a)
+pub tested_in : (at middle end : ℕ) (test : Test) (negated : Bool) (word : Span) (a : Tree) → at ≤ middle → middle ≤ end → TreeIn at middle a → In middle end word →
+    TreeIn at end (tested test negated word a)
 tested_in at middle end test negated word a l u h i =
     let own = reaches h.own i in
     let c : TreeIn at end a = tree_wider (omega arith) u a h in
@@ -186,13 +196,16 @@ tested_in at middle end test negated word a l u h i =
       leaves = leaves_at at end (v.Is a.tree test negated) (leaves_in a.tree) (at_layer leaves_step (Expr-F.Is a.tree test negated) _ (v.rolls-Is a.tree test negated)) c.leaves;
     }
 
-pub coalesced_in : (at middle end : ℕ) (word : Span) (d : Span × List Tree × Span) → at ≤ middle → middle ≤ end → In at middle word → Bracketed ListIn middle end d → TreeIn at end (coalesced word d.1 d.2)
+pub coalesced_in : (at middle end : ℕ) (word : Span) (d : Span × List Tree × Span) → at ≤ middle → middle ≤ end → In at middle word → Bracketed ListIn middle end d →
+    TreeIn at end (coalesced word d.1 d.2)
 coalesced_in at middle end word d l u h i =
     let apart : middle ≤ i.right = omega (arith, i.opening.from, i.opening.ordered, i.opening.to, i.between) in
     let own : In at end (reach word d.2) = record { from = h.from; ordered = omega (arith, h.ordered, h.to, apart, i.closing.from, i.closing.ordered); to = i.closing.to } in
-    let cs : ListIn at end d.1 = list_wider (omega (arith, l, i.opening.from, i.opening.ordered, i.opening.to)) (omega (arith, i.closing.from, i.closing.ordered, i.closing.to)) d.1 i.held in
+    let cs : ListIn at end d.1 = list_wider (omega (arith, l, i.opening.from, i.opening.ordered, i.opening.to))
+        (omega (arith, i.closing.from, i.closing.ordered, i.closing.to)) d.1 i.held in
     record {
       own = own;
       nodes = (own, cs.nodes);
-      leaves = leaves_at at end (v.Coalesce (map tree_of d.1)) (joined (map leaves_in (map tree_of d.1))) (at_layer leaves_step (Expr-F.Coalesce (map tree_of d.1)) _ (v.rolls-Coalesce (map tree_of d.1))) cs.leaves;
+      leaves = leaves_at at end (v.Coalesce (map tree_of d.1)) (joined (map leaves_in (map tree_of d.1)))
+          (at_layer leaves_step (Expr-F.Coalesce (map tree_of d.1)) _ (v.rolls-Coalesce (map tree_of d.1))) cs.leaves;
     }

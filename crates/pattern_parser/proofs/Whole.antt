@@ -35,16 +35,20 @@ module _ (ts us : List Token) (same : us ≡ ts) where
   shallow tree left h = whole.low class class_count below sample sampled inside decided 3 has opens closes counted_all query sure sums 64 ts tree left (moved (got tree left) h)
 
   pub complete_ok : (tree : QueryTree) (left : List Token) → finish (reads (at_depth 64) query us) ≡ got tree left → (other : QueryTree) → SpellsQuery ts other → tree ≡ other
-  complete_ok tree left h other s = whole.complete_got class class_count below sample sampled inside decided 3 has opens closes counted_all query sure sums 64 ts tree left (moved (got tree left) h) s.0 other s.1
+  complete_ok tree left h other s = whole.complete_got class class_count below sample sampled inside decided 3 has opens closes counted_all query sure sums 64 ts tree left
+      (moved (got tree left) h) s.0 other s.1
 
   pub complete_fault : (c : Cause) (left : List Token) → finish (reads (at_depth 64) query us) ≡ fault c left → (other : QueryTree) → SpellsQuery ts other → IsShallow ts → ⊥
-  complete_fault c left h other s l = whole.complete_fault class class_count below sample sampled inside decided 3 has opens closes counted_all query sure sums 64 ts c left (moved (fault c left) h) l s.0 other s.1
+  complete_fault c left h other s l = whole.complete_fault class class_count below sample sampled inside decided 3 has opens closes counted_all query sure sums 64 ts c left
+      (moved (fault c left) h) l s.0 other s.1
 
   pub left_short : (c : Cause) (left : List Token) → finish (reads (at_depth 64) query us) ≡ fault c left → length left ≤ length ts
   left_short c left h = whole.left_short class class_count below sample sampled inside decided 3 has opens closes counted_all query sure sums 64 ts c left (moved (fault c left) h)
 
-  pub first : (c : Cause) (left : List Token) (at : ℕ) → finish (reads (at_depth 64) query us) ≡ fault c left → at + length left ≡ length ts → FirstFault (on class opens) (on class closes) query_text 64 ts c (drop at ts)
-  first c left at h l = whole.fault_at class class_count below sample sampled inside decided 3 has opens closes counted_all query sure sums 64 ts c left at (moved (fault c left) h) l
+  pub first : (c : Cause) (left : List Token) (at : ℕ) → finish (reads (at_depth 64) query us) ≡ fault c left → at + length left ≡ length ts →
+      FirstFault (on class opens) (on class closes) query_text 64 ts c (drop at ts)
+  first c left at h l = whole.fault_at class class_count below sample sampled inside decided 3 has opens closes counted_all query sure sums 64 ts c left at
+      (moved (fault c left) h) l
 
 pub one_tree : (ts : List Token) (a b : QueryTree) → SpellsQuery ts a → SpellsQuery ts b → a ≡ b
 one_tree ts a b s t = whole.one_value class class_count below sample sampled inside decided 3 has opens closes counted_all query sure sums ts a b s t
@@ -73,7 +77,8 @@ same_refusal a b r s c d =
 first_same : (ts : List Token) (end : ℕ) (a b : Refusal) → IsFirstFault ts end a → IsFirstFault ts end b → a ≡ b
 first_same ts end a b f g =
     let q = one_fault (on class opens) (on class closes) query_text 64 ts f.cause g.cause (drop f.place ts) (drop g.place ts) f.first g.first in
-    let place : span_at end (slice_get ts f.place) ≡ span_at end (slice_get ts g.place) = at_place end f.place ts ∙ ap (λ l. span_at end (slice_get l 0)) q.1 ∙ sym (at_place end g.place ts) in
+    let place : span_at end (slice_get ts f.place) ≡ span_at end (slice_get ts g.place) = at_place end f.place ts ∙ ap (λ l. span_at end (slice_get l 0)) q.1
+        ∙ sym (at_place end g.place ts) in
     same_refusal a b (f.role ∙ sym g.role) (f.span ∙ place ∙ sym g.span) (f.code ∙ ap code_for q.0 ∙ sym g.code) (f.detail ∙ sym g.detail)
 
 pub one_outcome : (ts : List Token) (end : ℕ) (a b : Result QueryTree Refusal) → IsOutcome ts end a → IsOutcome ts end b → a ≡ b

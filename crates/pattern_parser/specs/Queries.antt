@@ -120,7 +120,8 @@ tree_of graph word paths condition items = record { graph = graph; match_span = 
 
 -- name MATCH path { , path } [ WHERE cond ] COLUMNS ( item { , item } )
 unfoldable pub table : Production QueryTree
-table = mapped (λ d. tree_of d.0 d.1.0 d.1.1.0 d.1.1.1.0 d.1.1.1.1) (seq name (seq (the m.Match) (seq (list path) (seq (opt where_part) (after (the m.Columns) (parens Own.items))))))
+table = mapped (λ d. tree_of d.0 d.1.0 d.1.1.0 d.1.1.1.0 d.1.1.1.1)
+    (seq name (seq (the m.Match) (seq (list path) (seq (opt where_part) (after (the m.Columns) (parens Own.items))))))
 
 -- [ ; ]
 abbrev pub semicolon : Production (Unit {0})

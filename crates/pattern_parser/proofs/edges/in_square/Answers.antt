@@ -11,7 +11,8 @@ use Rattle.pattern_parser.proofs.Nesting.{Bracketed, nest_zero, nest_suc}
 use Rattle.pattern_parser.proofs.edges.in_square.Goals as goal
 
 pub returns-then-next_is : goal.returns-then-next_is
-returns-then-next_is c = nest_zero m.LeftBracket m.RightBracket (Inside.own Own.filler) (λ (d : Bracketed (Inside.own Own.filler)). d.1) c.args.depth c.args.tokens.now c.if-depth-eq0.true ∙ ap (λ b. choose b (fault too_deep c.args.tokens.now) (fault unexpected c.args.tokens.now)) (sym c.next_is.ensures ∙ c.if-next_is.true)
+returns-then-next_is c = nest_zero m.LeftBracket m.RightBracket (Inside.own Own.filler) (λ (d : Bracketed (Inside.own Own.filler)). d.1) c.args.depth c.args.tokens.now
+    c.if-depth-eq0.true ∙ ap (λ b. choose b (fault too_deep c.args.tokens.now) (fault unexpected c.args.tokens.now)) (sym c.next_is.ensures ∙ c.if-next_is.true)
 
 pub returns-in_err-content : goal.returns-in_err-content
 returns-in_err-content c =

@@ -29,10 +29,12 @@ decreases-label_union l = 7 * l.depth + 6
 
 -- what is read so far, and what would be read from here, make the whole
 abbrev pub invariant-more_ands-loop-turn : goal.invariant-more_ands-loop-turn
-invariant-more_ands-loop-turn l = gathered (is_mark m.Ampersand) (after_p (is_mark m.Ampersand) span_of (reads (at_depth l.depth) label_not)) pushed (l.turn-end - l.turn) l.all l.tokens
+invariant-more_ands-loop-turn l = gathered (is_mark m.Ampersand) (after_p (is_mark m.Ampersand) span_of (reads (at_depth l.depth) label_not)) pushed
+    (l.turn-end - l.turn) l.all l.tokens
     ≡ gathered (is_mark m.Ampersand) (after_p (is_mark m.Ampersand) span_of (reads (at_depth l.depth) label_not)) pushed (length l.fn.tokens) l.fn.all l.fn.tokens
 
 -- what is read so far, and what would be read from here, make the whole
 abbrev pub invariant-more_ors-loop-turn : goal.invariant-more_ors-loop-turn
-invariant-more_ors-loop-turn l = gathered (is_mark m.VerticalBar) (after_p (is_mark m.VerticalBar) span_of (reads (at_depth l.depth) label_and)) pushed (l.turn-end - l.turn) l.all l.tokens
+invariant-more_ors-loop-turn l = gathered (is_mark m.VerticalBar) (after_p (is_mark m.VerticalBar) span_of (reads (at_depth l.depth) label_and)) pushed
+    (l.turn-end - l.turn) l.all l.tokens
     ≡ gathered (is_mark m.VerticalBar) (after_p (is_mark m.VerticalBar) span_of (reads (at_depth l.depth) label_and)) pushed (length l.fn.tokens) l.fn.all l.fn.tokens

@@ -8,4 +8,5 @@ use Rattle.pattern_parser.proofs.paths.paths.Given as goal
 
 -- what is read so far, and what would be read from here, make the whole
 abbrev pub invariant-loop-turn : goal.invariant-loop-turn
-invariant-loop-turn l = gathered (is_mark m.Comma) (after_p (is_mark m.Comma) span_of (reads (at_depth l.depth) path)) pushed (l.turn-end - l.turn) l.all l.tokens ≡ reads_list (reads (at_depth l.depth) path) l.fn.tokens
+invariant-loop-turn l = gathered (is_mark m.Comma) (after_p (is_mark m.Comma) span_of (reads (at_depth l.depth) path)) pushed
+    (l.turn-end - l.turn) l.all l.tokens ≡ reads_list (reads (at_depth l.depth) path) l.fn.tokens
