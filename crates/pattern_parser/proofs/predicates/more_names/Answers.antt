@@ -1,0 +1,34 @@
+use Rattle.std.proofs.Common.{rules, ◌+◌, ◌-◌, sym, ◌∙◌, arith}
+use Rattle.std.proofs.lemmas.Grind.{common_steps}
+use Rattle.token_grammar.specs.Rules.{on}
+use Rattle.token_grammar.specs.Parser.{one_p}
+use Rattle.token_grammar.proofs.Loops.{more-step, gathered-end, gathered-stop}
+use Rattle.token_grammar.specs.Code.{pushed, after_p}
+use Rattle.token_marks.specs.declared.mark.Mark.TheVariants as m
+use Rattle.token_reading.specs.Tokens.{is_mark, span_of, class, is_name, named}
+use Rattle.pattern_parser.proofs.predicates.more_names.Goals as goal
+use Rattle.pattern_parser.proofs.predicates.more_names.Goals.{else-loop-turn-test, then-loop-turn-test+then-not-next_is}
+
+pub returns-in_err-item : goal.returns-in_err-item
+returns-in_err-item c =
+    let n = c.count-turn-end.result - c.loop-turn.turn in
+    let e = more-step (is_mark m.Comma) span_of (one_p (on class is_name) named) n (c.count-turn-end.result - (c.loop-turn.turn + 1)) c.loop-turn.all c.loop-turn.tokens
+        c.skip.new.self (omega arith) (sym c.next_is.ensures ∙ c.if-not-next_is.false) c.skip.ensures in
+    let f = sym e ∙ c.loop-turn.invariant in
+    first_of (search rules, grind (arith, common_steps))
+
+pub loop-turn-preserved : goal.loop-turn-preserved
+loop-turn-preserved c =
+    let n = c.count-turn-end.result - c.loop-turn.turn in
+    let e = more-step (is_mark m.Comma) span_of (one_p (on class is_name) named) n (c.count-turn-end.result - (c.loop-turn.turn + 1)) c.loop-turn.all c.loop-turn.tokens
+        c.skip.new.self (omega arith) (sym c.next_is.ensures ∙ c.if-not-next_is.false) c.skip.ensures in
+    let f = sym e ∙ c.loop-turn.invariant in
+    first_of (search rules, grind (arith, common_steps))
+
+pub returns : goal.returns
+returns c = sym c.loop-turn.invariant ∙ elim c.loop-turn-test.branch [
+  | else-loop-turn-test w ↦ gathered-end (is_mark m.Comma) (after_p (is_mark m.Comma) span_of (one_p (on class is_name) named)) pushed
+      (c.count-turn-end.result - c.loop-turn.turn) c.loop-turn.all c.loop-turn.tokens (omega arith)
+  | then-loop-turn-test+then-not-next_is w ↦ gathered-stop (is_mark m.Comma) (after_p (is_mark m.Comma) span_of (one_p (on class is_name) named)) pushed
+      (c.count-turn-end.result - c.loop-turn.turn) c.loop-turn.all c.loop-turn.tokens (sym w.next_is.ensures ∙ w.if-not-next_is.true)
+]

@@ -1,0 +1,12 @@
+use Rattle.std.proofs.Common.{◌≡◌, ◌-◌, length}
+use Rattle.token_grammar.specs.Rules.{on}
+use Rattle.token_grammar.specs.Parser.{one_p}
+use Rattle.token_grammar.specs.Code.{gathered, pushed, after_p}
+use Rattle.token_marks.specs.declared.mark.Mark.TheVariants as m
+use Rattle.token_reading.specs.Tokens.{is_mark, span_of, class, is_name, named}
+use Rattle.pattern_parser.proofs.predicates.more_names.Given as goal
+
+-- what is read so far, and what would be read from here, make the whole
+abbrev pub invariant-loop-turn : goal.invariant-loop-turn
+invariant-loop-turn l = gathered (is_mark m.Comma) (after_p (is_mark m.Comma) span_of (one_p (on class is_name) named)) pushed (l.turn-end - l.turn) l.all l.tokens
+    ≡ gathered (is_mark m.Comma) (after_p (is_mark m.Comma) span_of (one_p (on class is_name) named)) pushed (length l.fn.tokens) l.fn.all l.fn.tokens
