@@ -1,0 +1,4 @@
+pub mod Checked
+pub mod Found
+pub mod Merged
+pub mod Search
