@@ -1,7 +1,4 @@
-use Rattle.std.proofs.Common.{◌≡◌, ◌++◌, ◌+◌, ◌-◌, ◌*◌, ◌<◌, ◌≤◌, [], ◌∷◌, length, map, flat_map, filter, replicate, take, drop, nat_eq, bytes_eq, ℕ, suc, slice_index, slice_get}
-use Rattle.std.specs.List.{list_all, list_any, range_with_len, sum_by, position_or_len}
-use Rattle.std.specs.Cmp.Lexicographic.{pointwise}
-use Rattle.graph_meaning.specs.Bindings.{same_tags}
+use Rattle.std.proofs.Common.{◌≡◌, ◌++◌, ◌∷◌, drop}
 use Rattle.normal_form.proofs.merged.key.Given as goal
 
 abbrev pub invariant-loop-element : goal.invariant-loop-element

@@ -1,4 +1,4 @@
-use Rattle.std.proofs.Common.{◌≡◌, map, List, subst, arith}
+use Rattle.std.proofs.Common.{map, List, subst, arith}
 use Rattle.graph_ast.specs.declared.blocks.Alternative.{Alternative}
 use Rattle.multisets.specs.Bags.{IsIn}
 use Rattle.graph_meaning.specs.Blocks.{Shape, shapes_of}

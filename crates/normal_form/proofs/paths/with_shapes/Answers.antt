@@ -1,4 +1,4 @@
-use Rattle.std.proofs.Common.{◌≡◌, IfOk, Option, sym, ap, ap₂, subst, ◌∙◌, List}
+use Rattle.std.proofs.Common.{◌≡◌, IfOk, Option, ap₂, subst, ◌∙◌, List}
 use Rattle.std.specs.List.{fold}
 use Rattle.graph_meaning.specs.Choices.{tags_of}
 use Rattle.graph_meaning.specs.Blocks.{complete}

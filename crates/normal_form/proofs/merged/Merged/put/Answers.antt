@@ -1,4 +1,4 @@
-use Rattle.std.proofs.Common.{◌≡◌, ℕ, ◌∷◌, [], ◌++◌, List, ap, ◌∙◌, Vec, Global}
+use Rattle.std.proofs.Common.{ℕ, ◌∷◌, [], ◌++◌, ap, ◌∙◌, Vec, Global}
 use Rattle.graph_ast.specs.declared.blocks.Alternative.{Alternative}
 use Rattle.graph_ast.specs.declared.blocks.PathBlock.{PathBlock}
 use Rattle.normal_form.specs.Merged.{put_at}
