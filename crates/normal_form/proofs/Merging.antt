@@ -107,7 +107,8 @@ module _ (place : ℕ) (test : PathBlock → Bool) (f : Finding) where
       go (same_shape (block.tags, block.elements) f.0) (test block) (h block (inl refl)) (list_any test blocks) (put_is blocks (λ b k. h b (inr k)))
     where
       go : (b c : Bool) → c ≡ b → (d : Bool) → with_finding place blocks f ≡ cond d (put_at blocks (position_or_len test blocks) f.1) (blocks ++ new ∷ [])
-          → cond b (record { path = block.path; tags = block.tags; elements = block.elements; alternatives = block.alternatives ++ f.1 ∷ [] } ∷ blocks) (block ∷ with_finding place blocks f)
+          → cond b (record { path = block.path; tags = block.tags; elements = block.elements; alternatives = block.alternatives ++ f.1 ∷ [] } ∷ blocks)
+          (block ∷ with_finding place blocks f)
           ≡ cond (c || d) (put_at (block ∷ blocks) (cond (not c) (1 + position_or_len test blocks) 0) f.1) ((block ∷ blocks) ++ new ∷ [])
       go true true e d below = refl
       go true false e d below = absurd (true≢false (sym e))
@@ -117,7 +118,8 @@ module _ (place : ℕ) (test : PathBlock → Bool) (f : Finding) where
 
 -- a choice written behind those of a block
 pub put_set : (blocks : List PathBlock) (i : ℕ) (block : PathBlock) (choice : Alternative) (all : List Alternative) → i < length blocks → block ≡ get_or blocks i block
-    → all ≡ block.alternatives ++ choice ∷ [] → set blocks i (record { path = block.path; tags = block.tags; elements = block.elements; alternatives = all }) ≡ put_at blocks i choice
+    → all ≡ block.alternatives ++ choice ∷ [] → set blocks i (record { path = block.path; tags = block.tags; elements = block.elements; alternatives = all })
+    ≡ put_at blocks i choice
 put_set [] i block choice all h e a = absurd (omega arith)
 put_set (x ∷ xs) zero block choice all h e a =
     ap (λ l. record { path = block.path; tags = block.tags; elements = block.elements; alternatives = l } ∷ xs) a
@@ -125,7 +127,8 @@ put_set (x ∷ xs) zero block choice all h e a =
 put_set (x ∷ xs) (suc i) block choice all h e a = ap (λ l. x ∷ l) (put_set xs i block choice all (omega arith) e a)
 
 -- what a choice leaves of the keys
-same_keys : (words : List (List Tags)) (blocks : List PathBlock) (i : ℕ) (choice : Alternative) → map (key_of_block words) (put_at blocks i choice) ≡ map (key_of_block words) blocks
+same_keys : (words : List (List Tags)) (blocks : List PathBlock) (i : ℕ) (choice : Alternative) → map (key_of_block words) (put_at blocks i choice) ≡ map
+    (key_of_block words) blocks
 same_keys words [] i choice = refl
 same_keys words (block ∷ blocks) zero choice = refl
 same_keys words (block ∷ blocks) (suc i) choice = ap (λ l. key_of_block words block ∷ l) (same_keys words blocks i choice)
@@ -140,19 +143,23 @@ all_kept : {X : Type 0} (p q : X → Bool) (xs : List X) → ((x : X) → p x �
 all_kept p q [] h k = refl
 all_kept p q (x ∷ xs) h k = let r = both_parts _ _ k in both_true _ _ (h x r.0) (all_kept p q xs h r.1)
 
-pub kept_grown : (words more : List (List Tags)) (tags : List Tags) (numbers : List (List ℕ)) (blocks : List PathBlock) → more ≡ words ++ tags ∷ [] → AreKept words numbers blocks → AreKept more numbers blocks
+pub kept_grown : (words more : List (List Tags)) (tags : List Tags) (numbers : List (List ℕ)) (blocks : List PathBlock) → more ≡ words ++ tags ∷ []
+    → AreKept words numbers blocks → AreKept more numbers blocks
 kept_grown words more tags numbers blocks e kept =
     subst (λ w. AreKept w numbers blocks) (sym e)
     (record {
       keys = kept.keys ∙ same_map_in (key_of_block words) (key_of_block (words ++ tags ∷ [])) blocks
-          (λ block k. ap (λ n. n ∷ block.elements) (sym (position_more (same_tags block.tags) words (tags ∷ []) (each_of (λ (b : PathBlock). is_met words b.tags) blocks kept.met block k))));
-      met = all_kept (λ (b : PathBlock). is_met words b.tags) (λ (b : PathBlock). is_met (words ++ tags ∷ []) b.tags) blocks (λ b. any_more (same_tags b.tags) words (tags ∷ [])) kept.met;
+          (λ block k. ap (λ n. n ∷ block.elements) (sym
+          (position_more (same_tags block.tags) words (tags ∷ []) (each_of (λ (b : PathBlock). is_met words b.tags) blocks kept.met block k))));
+      met = all_kept (λ (b : PathBlock). is_met words b.tags) (λ (b : PathBlock). is_met (words ++ tags ∷ []) b.tags) blocks
+          (λ b. any_more (same_tags b.tags) words (tags ∷ [])) kept.met;
     })
 
 pub word_there : (words : List (List Tags)) (tags : List Tags) (place : ℕ) → place ≡ position_or_len (same_tags tags) words → place < length words → IsWord words tags place
 word_there words tags place e h = (e, found_within (same_tags tags) words (omega (arith, e, h)))
 
-pub word_pushed : (words more : List (List Tags)) (tags : List Tags) (place : ℕ) → more ≡ words ++ tags ∷ [] → place ≡ position_or_len (same_tags tags) words → IsWord more tags place
+pub word_pushed : (words more : List (List Tags)) (tags : List Tags) (place : ℕ) → more ≡ words ++ tags ∷ [] → place ≡ position_or_len (same_tags tags) words
+    → IsWord more tags place
 word_pushed words more tags place g e =
     let own : same_tags tags tags ≡ true = (same_tags_decides tags tags).1 refl in
     subst (λ w. IsWord w tags place) (sym g) (e ∙ sym (position_pushed (same_tags tags) words tags own), any_pushed (same_tags tags) words tags own)
@@ -224,7 +231,8 @@ map_twice f g [] = refl
 map_twice f g (x ∷ xs) = ap (λ l. f (g x) ∷ l) (map_twice f g xs)
 
 -- the shapes of a choice, by what a search gives
-pub shapes_found : (graph : Graph) (path : CheckedPath) (choice : Alternative) (tags : List Tags) (assignments : List (List ℕ)) → tags ≡ tags_of path choice → assignments ≡ complete graph path choice
+pub shapes_found : (graph : Graph) (path : CheckedPath) (choice : Alternative) (tags : List Tags) (assignments : List (List ℕ)) → tags ≡ tags_of path choice → assignments
+    ≡ complete graph path choice
     → map {B = Finding} (λ assignment. ((tags, assignment), choice)) assignments ≡ map {B = Finding} (λ shape. (shape, choice)) (shapes_of graph path choice)
 shapes_found graph path choice tags assignments t a =
     let by : List Tags → List ℕ → Finding = λ names assignment. ((names, assignment), choice) in
@@ -232,7 +240,8 @@ shapes_found graph path choice tags assignments t a =
     ap₂ (λ names l. map (by names) l) t a ∙ sym (map_twice (λ (s : Shape). (s, choice)) own (complete graph path choice))
 
 -- one choice more is gathered
-pub gather_step : {X Y B : Type 0} (f : B → Y → B) (made : X → List Y) (xs : List X) (i : ℕ) (x : X) (before after whole : B) → i < length xs → x ≡ get_or xs i x → after ≡ fold f before (made x)
+pub gather_step : {X Y B : Type 0} (f : B → Y → B) (made : X → List Y) (xs : List X) (i : ℕ) (x : X) (before after whole : B) → i < length xs → x ≡ get_or xs i x → after
+    ≡ fold f before (made x)
     → fold f before (flat_map made (drop i xs)) ≡ whole → fold f after (flat_map made (drop (i + 1) xs)) ≡ whole
 gather_step f made xs i x before after whole h at a is =
     ap (λ b. fold f b (flat_map made (drop (i + 1) xs))) a

@@ -9,12 +9,14 @@ use Rattle.normal_form.proofs.paths.gathered.Goals as goal
 pub with_shapes-requires-clause-operand : goal.with_shapes-requires-clause-operand
 with_shapes-requires-clause-operand c =
     choice_within c.args.path.now c.choice-item.result
-    (subst (λ (l : List Alternative). IsIn c.choice-item.result l) c.requires.all (there c.args.alternatives.now c.loop-choice.choice-index c.choice-item.result (omega arith) c.choice-item.is))
+    (subst (λ (l : List Alternative). IsIn c.choice-item.result l) c.requires.all
+    (there c.args.alternatives.now c.loop-choice.choice-index c.choice-item.result (omega arith) c.choice-item.is))
 
 pub loop-choice-preserved : goal.loop-choice-preserved
 loop-choice-preserved c =
     let made : Alternative → List Finding = λ choice. map (λ (shape : Shape). (shape, choice)) (shapes_of c.args.ground.now.graph.now c.args.path.now choice) in (
       c.in_ok-merged.ensures.kept,
-      gather_step (with_finding c.args.place) made c.args.alternatives.now c.loop-choice.choice-index c.choice-item.result c.loop-choice.merged.blocks.items c.in_ok-merged.merged.blocks.items
+      gather_step (with_finding c.args.place) made c.args.alternatives.now c.loop-choice.choice-index c.choice-item.result c.loop-choice.merged.blocks.items
+          c.in_ok-merged.merged.blocks.items
           (gathered c.args.place (findings c.args.ground.now.graph.now c.args.path.now)) (omega arith) c.choice-item.is c.in_ok-merged.ensures.blocks c.loop-choice.invariant.1,
     )

@@ -8,5 +8,6 @@ use Rattle.normal_form.proofs.paths.gathered.Given as goal
 abbrev pub invariant-loop-choice : goal.invariant-loop-choice
 invariant-loop-choice l =
     IsKept l.merged
-    × (fold (with_finding l.place) l.merged.blocks.items (flat_map (λ choice. map (λ shape. (shape, choice)) (shapes_of l.ground.graph.now l.path choice)) (drop l.choice-index l.alternatives))
+    × (fold (with_finding l.place) l.merged.blocks.items
+    (flat_map (λ choice. map (λ shape. (shape, choice)) (shapes_of l.ground.graph.now l.path choice)) (drop l.choice-index l.alternatives))
     ≡ gathered l.place (findings l.ground.graph.now l.path))

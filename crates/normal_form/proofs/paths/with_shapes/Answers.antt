@@ -14,7 +14,8 @@ returns-in-Some-clause-blocks c =
     let path = c.args.path.now in
     let choice = c.args.choice.now in
     let expanded = c.in_ok-expanded.expanded in
-    let found : IsAllFound graph expanded.path.now expanded.choice.now _ c.in-Some.found = subst (λ (o : Option Found). IsFound graph expanded.path.now expanded.choice.now _ o) c.in-Some.is c.in_ok-search.ensures in
+    let found : IsAllFound graph expanded.path.now expanded.choice.now _ c.in-Some.found = subst
+    (λ (o : Option Found). IsFound graph expanded.path.now expanded.choice.now _ o) c.in-Some.is c.in_ok-search.ensures in
     let all : c.as_slice-in-Some.result.now ≡ complete graph path choice =
     c.as_slice-in-Some.ensures ∙ found.complete ∙ ap₂ (complete graph) c.in_ok-expanded.ensures.path c.in_ok-expanded.ensures.choice in
     let tags : c.as_slice.result.now ≡ tags_of path choice = c.as_slice.ensures ∙ c.in_ok-expanded.ensures.value.tags in

@@ -12,9 +12,11 @@ returns-then-place-as_slice-clause-word c =
 
 pub returns-clause-kept : goal.returns-clause-kept
 returns-clause-kept c =
-    kept_grown c.args.self.words c.push.new.self c.args.tags.now _ c.args.self.blocks.items (c.in_ok-push.ensures.ok ∙ ap (λ (t : List Tags). c.args.self.words ++ t ∷ []) c.in_ok-copy_tags.ensures) c.requires
+    kept_grown c.args.self.words c.push.new.self c.args.tags.now _ c.args.self.blocks.items
+    (c.in_ok-push.ensures.ok ∙ ap (λ (t : List Tags). c.args.self.words ++ t ∷ []) c.in_ok-copy_tags.ensures) c.requires
 
 pub returns-clause-word : goal.returns-clause-word
 returns-clause-word c =
-    word_pushed c.args.self.words c.push.new.self c.args.tags.now c.place_of-place.result (c.in_ok-push.ensures.ok ∙ ap (λ (t : List Tags). c.args.self.words ++ t ∷ []) c.in_ok-copy_tags.ensures)
+    word_pushed c.args.self.words c.push.new.self c.args.tags.now c.place_of-place.result
+    (c.in_ok-push.ensures.ok ∙ ap (λ (t : List Tags). c.args.self.words ++ t ∷ []) c.in_ok-copy_tags.ensures)
     (c.place_of-place.ensures ∙ ap (position_or_len (same_tags c.args.tags.now)) c.as_slice.ensures)
