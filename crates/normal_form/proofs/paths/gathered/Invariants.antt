@@ -1,0 +1,13 @@
+use Rattle.std.proofs.Common.{◌≡◌, map, flat_map, drop}
+use Rattle.std.specs.List.{fold}
+use Rattle.graph_meaning.specs.Blocks.{shapes_of}
+use Rattle.normal_form.specs.Merged.{with_finding, findings, gathered}
+use Rattle.normal_form.specs.Kept.{IsKept}
+use Rattle.normal_form.proofs.paths.gathered.Given as goal
+
+abbrev pub invariant-loop-choice : goal.invariant-loop-choice
+invariant-loop-choice l =
+    IsKept l.merged
+    × (fold (with_finding l.place) l.merged.blocks.items
+    (flat_map (λ choice. map (λ shape. (shape, choice)) (shapes_of l.ground.graph.now l.path choice)) (drop l.choice-index l.alternatives))
+    ≡ gathered l.place (findings l.ground.graph.now l.path))

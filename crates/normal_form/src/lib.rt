@@ -1,0 +1,19 @@
+//! The path blocks of a checked query, each of which becomes a part of a SELECT.
+#![tactic(auto)]
+
+mod choices;
+mod copies;
+mod expansion;
+mod fits;
+mod labels;
+mod laws;
+mod merged;
+mod names;
+mod paths;
+mod search;
+mod tags;
+#[cfg(test)]
+mod tests;
+
+pub use laws::{blocks_by_findings, findings_gathered};
+pub use paths::path_blocks;
