@@ -1,0 +1,7 @@
+pub mod Nests
+pub mod GatheredLists
+pub mod Listing
+pub mod Whole
+pub mod Placed
+pub mod ConditionSpans
+pub mod SelectSpans
