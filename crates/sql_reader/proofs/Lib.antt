@@ -10,3 +10,5 @@ pub mod Places
 pub mod Telling
 pub mod TellingSelects
 pub mod TellingTexts
+pub mod ReadingLemmas
+pub mod Spelled

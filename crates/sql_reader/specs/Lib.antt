@@ -6,3 +6,4 @@ pub mod Types
 pub mod Phases
 pub mod Queries
 pub mod Shapes
+pub mod Reading

@@ -1,6 +1,7 @@
-ghost use Rattle.std.specs.Prelude.{◌≡◌, None};
+ghost use Rattle.std.specs.Prelude.{◌≡◌, None, map};
 ghost use Rattle.graph_ast.specs.declared.catalog.Catalog.{Catalog};
 ghost use Rattle.sql_algebra.specs.declared.text.SqlText.{SqlText as Text};
+ghost use Rattle.sql_algebra.specs.Meant.{told_select, bare_select};
 ghost use Rattle.sql_algebra.specs.Soundness.{IsSound};
 ghost use Rattle.sql_reader.specs.Phases.{first_fault};
 ghost use Rattle.sql_reader.specs.Queries.{query_of};
@@ -15,4 +16,10 @@ pub fn faultless_is_sound()
 /// A law: a text has no fault where the query that it writes down is sound in the catalog.
 pub fn sound_is_faultless()
     ensures { (catalog : Catalog) (text : Text) → IsSound (query_of catalog text) catalog → first_fault catalog text ≡ None }
+{}
+
+/// A law: the query that is answered for a text is the one that the text tells, but for the classes of its leaves, which no
+/// text tells.
+pub fn query_is_told()
+    ensures { (catalog : Catalog) (text : Text) → map told_select text.selects ≡ map bare_select (query_of catalog text).selects }
 {}

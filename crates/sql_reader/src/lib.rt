@@ -7,9 +7,13 @@ mod names;
 mod phases;
 mod queries;
 mod reach;
+mod reading;
 mod tables;
+#[cfg(test)]
+mod tests;
 mod types;
 mod unions;
 
 pub use judging::judge_text;
-pub use laws::{faultless_is_sound, sound_is_faultless};
+pub use laws::{faultless_is_sound, query_is_told, sound_is_faultless};
+pub use reading::read_sql;

@@ -1,0 +1,36 @@
+ghost use Rattle.std.specs.Prelude.{◌≡◌, ℕ, Result, IfOk, IfErr, Ok, Err, ◌⊎◌};
+ghost use Rattle.pgq_base.specs.Answers.{Gives};
+ghost use Rattle.pgq_base.specs.declared.refusal.Refusal.{Refusal as AnyRefusal};
+ghost use Rattle.sql_algebra.specs.declared.tree.SqlQuery.{SqlQuery as Query};
+ghost use Rattle.sql_parser.specs.Outcomes.{IfRefused, IsFirstFault};
+ghost use Rattle.sql_reader.specs.Reading.{IsRead, IsAnswer};
+
+use crate::judging::judge_text;
+use graph_ast::Catalog;
+use pgq_base::Stop;
+use sql_algebra::SqlQuery;
+use sql_lexer::Token;
+use sql_parser::parse_sql;
+use std::alloc::Global;
+
+/// The query that the tokens of an SQL text spell in a catalog. The text is `end` bytes long, which is not less than the
+/// end of the last token.
+///
+/// Where the tokens are no SQL text, or one with more than 128 open parentheses, the refusal is that of `parse_sql`; else,
+/// where the rules on names and classes give a fault, that of `judge_text`. The answer that is due is given, or want of
+/// memory, which may come at any time.
+pub fn read_sql(
+    alloc: Global,
+    tokens: &[Token],
+    end: u32,
+    catalog: &Catalog,
+) -> Result<SqlQuery, Stop>
+    ensures ok { IfOk result (λ query. IsRead tokens.now catalog.now (Ok query)) }
+    ensures refused { IfErr result (λ stop. IfRefused stop (λ refusal. IsFirstFault tokens.now end refusal ⊎ IsRead tokens.now catalog.now (Err refusal))) }
+    ensures due { (due : Result Query AnyRefusal) → IsAnswer tokens.now end catalog.now due → Gives due result }
+{
+    match parse_sql(alloc, tokens, end) {
+        Ok(text) => judge_text(alloc, &text, catalog),
+        Err(stop) => Err(stop),
+    }
+}
