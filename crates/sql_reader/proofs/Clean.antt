@@ -1,10 +1,10 @@
 -- Lists of faults that are empty.
-use Rattle.std.proofs.Common.{◌≡◌, ℕ, Bool, true, false, not, ◌&&◌, cond, List, [], ◌∷◌, ◌++◌, map, refl, sym, ap, ◌∙◌, subst, Option, None, Some}
+use Rattle.std.proofs.Common.{◌≡◌, Bool, true, false, not, ◌&&◌, List, [], ◌∷◌, ◌++◌, map, refl, sym, ap, ◌∙◌, subst, None}
 use Rattle.std.specs.List.{list_all, flat_map}
 use Rattle.pgq_base.specs.declared.code.Code.{Code}
 use Rattle.pgq_base.specs.declared.refusal.Span.{Span}
 use Rattle.first_faults.specs.declared.faults.Fault.{Fault}
-use Rattle.first_faults.specs.Faults.{when, first_of, earlier, IsFirst}
+use Rattle.first_faults.specs.Faults.{when, first_of, IsFirst}
 use Rattle.first_faults.proofs.LeastLemmas.{first_of_is_first}
 
 -- there is no fault among them

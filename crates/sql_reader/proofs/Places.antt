@@ -1,8 +1,7 @@
 -- Items in reach, as the text and as the query have them.
-use Rattle.std.proofs.Common.{◌≡◌, ℕ, Bool, true, false, not, ◌&&◌, ◌||◌, cond, List, [], ◌∷◌, ◌++◌, map, refl, sym, ap, ◌∙◌, Option, None, Some, is_some, option_map, bytes_eq}
-use Rattle.std.specs.List.{list_all, list_any, find}
+use Rattle.std.proofs.Common.{◌≡◌, ℕ, Bool, true, false, not, ◌&&◌, ◌||◌, cond, List, [], ◌∷◌, ◌++◌, map, refl, sym, ap, ◌∙◌, Some, is_some, option_map, bytes_eq}
+use Rattle.std.specs.List.{list_all, find}
 use Rattle.std.specs.Cmp.Lexicographic.{nat_list_eq_equiv}
-use Rattle.std.proofs.lemmas.List.{map-append}
 use Rattle.graph_ast.specs.declared.catalog.Catalog.{Catalog}
 use Rattle.sql_algebra.specs.declared.tree.FromItem.{FromItem}
 use Rattle.sql_algebra.specs.declared.text.ItemText.{ItemText}
@@ -15,8 +14,8 @@ use Rattle.pgq_base.specs.declared.code.Code.TheVariants as code
 use Rattle.sql_reader.specs.Reaches.{Placed, Reach, placed, items_placed, item_of}
 use Rattle.sql_reader.specs.Names.{repeated_aliases, repeated_columns, unknown_table}
 use Rattle.sql_reader.specs.Phases.{chain_to}
-use Rattle.sql_reader.specs.Queries.{item_made, items_made}
-use Rattle.sql_reader.proofs.Clean.{no_fault, no_fault_append, no_fault_when, no_fault_unless, and_false}
+use Rattle.sql_reader.specs.Queries.{items_made}
+use Rattle.sql_reader.proofs.Clean.{no_fault, no_fault_append, no_fault_when, no_fault_unless}
 
 -- an item of a query: its alias, and the table that it names
 abbrev pub item_reached : Catalog → FromItem → Placed

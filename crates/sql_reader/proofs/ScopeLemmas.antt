@@ -1,9 +1,8 @@
 -- The items in reach of a scope.
-use Rattle.std.specs.Prelude.{find}
 use denote.Ref.{Bor}
-use Rattle.std.proofs.Common.{◌≡◌, ◌∙◌, List, [], ◌++◌, refl, sym, ap, Option, Some, None}
+use Rattle.std.proofs.Common.{◌≡◌, ◌∙◌, [], ◌++◌, refl, sym, ap, Option, Some, None}
 use Rattle.sql_reader.specs.declared.reach.Scope.{Scope, out-Scope, roll-out-Scope, map-Scope, fold-roll-Scope}
-use Rattle.sql_reader.specs.Reaches.{Placed, Reach}
+use Rattle.sql_reader.specs.Reaches.{Reach}
 use Rattle.sql_reader.specs.Levels.{scope_step, reach_of}
 
 -- the items of the selects around it

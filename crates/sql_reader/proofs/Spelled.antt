@@ -11,7 +11,7 @@ use Rattle.sql_algebra.specs.declared.tree.ColumnLeaf.{ColumnLeaf}
 use Rattle.sql_algebra.specs.declared.tree.FromItem.{FromItem}
 use Rattle.sql_algebra.specs.declared.tree.SelectColumn.{SelectColumn}
 use Rattle.sql_algebra.specs.declared.tree.Select.{Select}
-use Rattle.sql_algebra.specs.declared.tree.Conjunct.{Conjunct, Conjunct-F}
+use Rattle.sql_algebra.specs.declared.tree.Conjunct.{Conjunct}
 use Rattle.sql_algebra.specs.declared.tree.Conjunct.TheVariants.{Plain, NotExists}
 use Rattle.sql_algebra.specs.declared.text.SqlText.{SqlText}
 use Rattle.sql_algebra.specs.declared.text.SelectText.{SelectText, SelectText-F, ind-SelectText, map-SelectText, fold-roll-SelectText}

@@ -1,14 +1,12 @@
 -- A text has no fault exactly where the query that it writes down is sound, and the text has the grammar's shape.
-use Rattle.std.proofs.Common.{◌≡◌, ℕ, Bool, true, false, not, ◌&&◌, cond, List, [], ◌∷◌, ◌++◌, map, length, refl, sym, ap, ◌∙◌, subst, Option, None, Some, is_some, option_map, bytes_eq}
-use Rattle.std.specs.List.{list_all, flat_map, find, AllByRecursion}
+use Rattle.std.proofs.Common.{◌≡◌, Bool, true, false, ◌&&◌, cond, List, [], ◌∷◌, ◌++◌, refl, sym, ap, ◌∙◌, subst, Option, None, Some, is_some, option_map, bytes_eq}
+use Rattle.std.specs.List.{list_all, flat_map, find}
 use Rattle.pgq_base.specs.declared.value.Class.{Class}
 use Rattle.pgq_base.specs.declared.value.Class.TheVariants.{Truth}
 use Rattle.pgq_base.specs.declared.code.Code.TheVariants as code
-use Rattle.expr_tree.specs.declared.tree.Expr.{Expr}
-use Rattle.expr_tree.specs.declared.tree.Expr.TheVariants as e
-use Rattle.expr_tree.specs.Classes.{same_class, class_in, class_step, judged, judged_step, well_classed}
+use Rattle.expr_tree.specs.Classes.{same_class, class_in, class_step, judged_step, well_classed}
 use Rattle.expr_tree.specs.Leaves.{leaves_in, leaves_step}
-use Rattle.expr_tree.specs.Mapping.{mapped, KeepsClass}
+use Rattle.expr_tree.specs.Mapping.{KeepsClass}
 use Rattle.expr_tree.proofs.Folds.{each_from_all}
 use Rattle.expr_tree.proofs.LawLemmas.{mapped_class, mapped_rules, mapped_leaves}
 use Rattle.expr_tree.proofs.ClassLemmas.{same_self}
@@ -23,12 +21,12 @@ use Rattle.sql_algebra.specs.declared.text.ColumnRef.{ColumnRef}
 use Rattle.sql_algebra.specs.Catalogs.{table_named, column_named}
 use Rattle.sql_algebra.specs.Soundness as s
 use Rattle.sql_algebra.proofs.Folds.{on-Leaf}
-use Rattle.sql_reader.specs.Reaches.{Placed, Reach, item_of}
+use Rattle.sql_reader.specs.Reaches.{Reach}
 use Rattle.sql_reader.specs.Names.{leaf_at, leaf_names, value_names, unknown_column}
 use Rattle.sql_reader.specs.Types.{class_of_column, class_in_table, class_at, leaf_class, mismatch, typed, truth_asked, value_types, condition_types}
 use Rattle.sql_reader.specs.Queries.{leaf_made, value_made}
-use Rattle.sql_reader.specs.Shapes.{is_shaped, value_is_shaped}
-use Rattle.sql_reader.proofs.Clean.{no_fault, no_fault_append, no_fault_unless, no_fault_flat, and_true, both, pair, Tells, tells_by}
+use Rattle.sql_reader.specs.Shapes.{value_is_shaped}
+use Rattle.sql_reader.proofs.Clean.{no_fault, no_fault_append, no_fault_unless, no_fault_flat, and_true, both, pair, Tells}
 use Rattle.sql_reader.proofs.Typing.{told, typed_class}
 use Rattle.sql_reader.proofs.Places.{item_reached, reached, find_reached, are_known}
 

@@ -1,22 +1,16 @@
 -- The same of selects, and of whole texts.
-use Rattle.std.proofs.Common.{◌≡◌, ℕ, suc, ◌==◌, Bool, true, false, not, ◌&&◌, cond, List, [], ◌∷◌, ◌++◌, map, length, refl, sym, ap, ◌∙◌, subst, Option, None, Some, is_some, option_map, nat_eq, arith}
+use Rattle.std.proofs.Common.{◌≡◌, Bool, true, ◌&&◌, List, [], ◌∷◌, ◌++◌, map, refl, ap, ◌∙◌, subst, Option, None, Some, is_some, option_map}
 use Rattle.std.specs.List.{list_all, flat_map}
-use Rattle.std.proofs.lemmas.Bool.Decides.{nat_tests}
-use Rattle.pgq_base.specs.declared.value.Class.{Class}
-use Rattle.pgq_base.specs.declared.code.Code.TheVariants as code
 use Rattle.expr_tree.specs.declared.tree.Expr.{Expr}
-use Rattle.expr_tree.specs.Classes.{same_class, class_in}
 use Rattle.graph_ast.specs.declared.catalog.Catalog.{Catalog}
 use Rattle.condition_grammar.specs.declared.spanned.Spanned.{Spanned}
-use Rattle.condition_grammar.specs.Spans.{span_of}
 use Rattle.sql_algebra.specs.declared.tree.ColumnLeaf.{ColumnLeaf}
 use Rattle.sql_algebra.specs.declared.tree.FromItem.{FromItem}
 use Rattle.sql_algebra.specs.declared.tree.SelectColumn.{SelectColumn}
 use Rattle.sql_algebra.specs.declared.tree.Select.{Select}
 use Rattle.sql_algebra.specs.declared.tree.Conjunct.{Conjunct}
-use Rattle.sql_algebra.specs.declared.text.SqlText.{SqlText}
-use Rattle.sql_algebra.specs.declared.text.SelectText.{SelectText, SelectText-F, fold-SelectText, ind-SelectText, map-SelectText, roll-SelectText, out-SelectText, fold-roll-SelectText}
-use Rattle.sql_algebra.specs.declared.text.ConjunctText.{ConjunctText, ConjunctText-F, fold-ConjunctText, map-ConjunctText, roll-ConjunctText, fold-roll-ConjunctText}
+use Rattle.sql_algebra.specs.declared.text.SelectText.{SelectText, SelectText-F, ind-SelectText, map-SelectText, fold-roll-SelectText}
+use Rattle.sql_algebra.specs.declared.text.ConjunctText.{ConjunctText, ConjunctText-F, map-ConjunctText, fold-roll-ConjunctText}
 use Rattle.sql_algebra.specs.declared.text.ColumnText.{ColumnText}
 use Rattle.sql_algebra.specs.declared.text.ItemText.{ItemText}
 use Rattle.sql_algebra.specs.declared.text.ColumnRef.{ColumnRef}
@@ -26,21 +20,19 @@ use Rattle.sql_algebra.specs.Soundness.{differ_from}
 use Rattle.sql_algebra.proofs.Folds.{select_sound, plain_sound, not_exists_sound}
 use Rattle.sql_algebra.proofs.Folds as folds
 use Rattle.first_faults.specs.declared.faults.Fault.{Fault}
-use Rattle.first_faults.specs.Faults.{when, first_of}
 use Rattle.sql_reader.specs.declared.phases.Phase.{Phase}
 use Rattle.sql_reader.specs.declared.phases.Phase.TheVariants.{Names, Types}
 use Rattle.sql_reader.specs.Reaches.{Reach, placed, items_placed, reach_within}
 use Rattle.sql_reader.specs.Names.{unknown_table, repeated_aliases, repeated_columns}
-use Rattle.sql_reader.specs.Types.{class_of_value}
 use Rattle.sql_reader.specs.Phases as p
 use Rattle.sql_reader.specs.Phases.{value_faults, condition_faults, given_faults, chain_to, members_of, on_faults, select_faults, conjunct_faults, column_class, column_classes, differing_items, later_faults, united_faults, faults_in, or_then, first_fault}
 use Rattle.sql_reader.specs.Queries as q
 use Rattle.sql_reader.specs.Queries.{value_made, column_made, item_made, items_made, conjunct_made, select_made, query_of}
 use Rattle.sql_reader.specs.Shapes as h
 use Rattle.sql_reader.specs.Shapes.{value_is_shaped, item_is_shaped, conjunct_is_shaped, select_is_shaped, HasShape}
-use Rattle.sql_reader.proofs.Clean.{no_fault, no_fault_append, no_fault_unless, no_fault_flat, none_first, first_none, and_true, both, pair, Tells, tells_nothing, tells_both, tells_all, tells_by}
-use Rattle.sql_reader.proofs.Places.{item_reached, reached, reached_append, made_reached, are_known, known_append, aliases, names_of, aliases_differ, columns_differ, tables_known}
-use Rattle.sql_reader.proofs.Telling.{value_told, condition_told, class_told}
+use Rattle.sql_reader.proofs.Clean.{no_fault, no_fault_append, no_fault_flat, both, pair, Tells, tells_nothing, tells_both, tells_all, tells_by}
+use Rattle.sql_reader.proofs.Places.{reached, reached_append, made_reached, are_known, known_append, aliases, names_of, aliases_differ, columns_differ, tables_known}
+use Rattle.sql_reader.proofs.Telling.{value_told, condition_told}
 
 module _ (catalog : Catalog) where
   -- ---- ONs

@@ -1,23 +1,21 @@
 -- The same of whole texts: a text without a fault writes down a sound query, and a text that writes down a sound query has no fault.
-use Rattle.std.proofs.Common.{◌≡◌, ℕ, zero, suc, ◌==◌, Bool, true, false, not, ◌&&◌, cond, List, [], ◌∷◌, ◌++◌, map, length, refl, sym, ap, ◌∙◌, subst, Option, None, Some, arith}
+use Rattle.std.proofs.Common.{◌≡◌, ℕ, suc, ◌==◌, Bool, true, false, not, ◌&&◌, cond, List, [], ◌∷◌, ◌++◌, map, length, refl, sym, ap, ◌∙◌, Option, None, Some, arith}
 use Rattle.std.specs.List.{list_all, flat_map}
 use Rattle.std.proofs.lemmas.Bool.Decides.{nat_tests}
 use Rattle.pgq_base.specs.declared.value.Class.{Class}
 use Rattle.pgq_base.specs.declared.code.Code.TheVariants as code
-use Rattle.expr_tree.specs.Classes.{same_class, class_in}
+use Rattle.expr_tree.specs.Classes.{same_class}
 use Rattle.graph_ast.specs.declared.catalog.Catalog.{Catalog}
 use Rattle.condition_grammar.specs.Spans.{span_of}
-use Rattle.sql_algebra.specs.declared.tree.SelectColumn.{SelectColumn}
 use Rattle.sql_algebra.specs.declared.tree.Select.{Select}
 use Rattle.sql_algebra.specs.declared.tree.Conjunct.{Conjunct}
 use Rattle.sql_algebra.specs.declared.text.SqlText.{SqlText}
-use Rattle.sql_algebra.specs.declared.text.SelectText.{SelectText, fold-SelectText, out-SelectText, fold-roll-SelectText}
+use Rattle.sql_algebra.specs.declared.text.SelectText.{SelectText, out-SelectText, fold-roll-SelectText}
 use Rattle.sql_algebra.specs.declared.text.ColumnText.{ColumnText}
 use Rattle.sql_algebra.specs.Soundness as s
 use Rattle.sql_algebra.specs.Soundness.{classes_of, same_classes, selects_agree, query_is_sound, IsSound}
 use Rattle.first_faults.specs.declared.faults.Fault.{Fault}
 use Rattle.first_faults.specs.Faults.{when, first_of}
-use Rattle.sql_reader.specs.declared.phases.Phase.{Phase}
 use Rattle.sql_reader.specs.declared.phases.Phase.TheVariants.{Names, Types}
 use Rattle.sql_reader.specs.Reaches.{Reach, reach_within}
 use Rattle.sql_reader.specs.Types.{class_of_value}
@@ -25,7 +23,7 @@ use Rattle.sql_reader.specs.Phases.{select_faults, column_class, column_classes,
 use Rattle.sql_reader.specs.Queries as q
 use Rattle.sql_reader.specs.Queries.{column_made, select_made, query_of}
 use Rattle.sql_reader.specs.Shapes.{select_is_shaped, HasShape}
-use Rattle.sql_reader.proofs.Clean.{no_fault, no_fault_append, no_fault_unless, no_fault_flat, none_first, first_none, and_true, both, pair, Tells, tells_nothing, tells_both, tells_all, tells_by}
+use Rattle.sql_reader.proofs.Clean.{no_fault, no_fault_append, no_fault_unless, no_fault_flat, none_first, first_none, and_true, Tells, tells_both, tells_all, tells_by}
 use Rattle.sql_reader.proofs.Telling.{class_told}
 use Rattle.sql_reader.proofs.TellingSelects.{select_told}
 

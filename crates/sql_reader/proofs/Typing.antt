@@ -1,22 +1,21 @@
 -- The faults of types in an expression: there is none exactly where the expression is well classed.
-use Rattle.std.proofs.Common.{◌≡◌, ℕ, Bool, true, false, not, ◌&&◌, List, [], ◌∷◌, ◌++◌, map, drop, refl, sym, ap, ◌∙◌, subst, Option, None, Some, is_some}
+use Rattle.std.proofs.Common.{◌≡◌, Bool, true, false, ◌&&◌, List, [], ◌∷◌, map, drop, refl, sym, ap, ◌∙◌, subst, Option, None, Some}
 use Rattle.std.specs.List.{list_all}
 use Rattle.pgq_base.specs.declared.refusal.Span.{Span}
 use Rattle.pgq_base.specs.declared.value.Class.{Class}
 use Rattle.pgq_base.specs.declared.value.Class.TheVariants.{Truth}
 use Rattle.pgq_base.specs.declared.code.Code.TheVariants as code
-use Rattle.expr_tree.specs.declared.tree.Test.{Test}
 use Rattle.expr_tree.specs.declared.tree.Test.TheVariants as test
 use Rattle.expr_tree.specs.declared.tree.Expr.{Expr, Expr-F, map-Expr, roll-Expr, fold-roll-Expr, ind-Expr}
-use Rattle.expr_tree.specs.Classes.{same_class, class_step, class_in, keeps_rules, children_of, is_filled, first_class, Judgement, judged_step, judged}
+use Rattle.expr_tree.specs.Classes.{same_class, class_step, class_in, is_filled, Judgement, judged_step, judged}
 use Rattle.expr_tree.proofs.Folds.{fused}
 use Rattle.expr_tree.proofs.ClassLemmas.{same_self}
 use Rattle.expr_tree.proofs.JudgementLemmas.{judged_class}
 use Rattle.condition_grammar.specs.Spans.{first_span, without_first}
 use Rattle.first_faults.specs.declared.faults.Fault.{Fault}
 use Rattle.sql_reader.specs.declared.types.Demand.{Demand}
-use Rattle.sql_reader.specs.Types.{Typed, mismatch, truth_asked, class_asked, test_asked, operand_faults, operands_faults, differing, node_faults, typed_step, typed}
-use Rattle.sql_reader.specs.Shapes.{node_is_shaped, shape_step, is_shaped}
+use Rattle.sql_reader.specs.Types.{Typed, mismatch, truth_asked, class_asked, operand_faults, operands_faults, differing, typed_step, typed}
+use Rattle.sql_reader.specs.Shapes.{shape_step, is_shaped}
 use Rattle.sql_reader.proofs.Clean.{no_fault, no_fault_append, no_fault_unless, and_true, and_false}
 
 regrouped : (F M R s S k K C m : Bool) → (F && s) ≡ k → (R && S) ≡ (K && C) → M ≡ m → (((F && M) && R) && (s && S)) ≡ ((k && K) && (m && C))

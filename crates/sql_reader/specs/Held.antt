@@ -1,5 +1,5 @@
 -- The items in reach, as code holds them.
-use Rattle.std.specs.Prelude.{List, [], ◌++◌, map, Some, None, option_copied}
+use Rattle.std.specs.Prelude.{option_copied}
 use Rattle.sql_reader.specs.declared.reach.Item.{Item}
 use Rattle.sql_reader.specs.Reaches.{Placed}
 

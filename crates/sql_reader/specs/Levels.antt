@@ -1,7 +1,7 @@
 -- The reach of a select, as code holds it: its own items, and the reach around it.
-use Rattle.std.specs.Prelude.{List, [], ◌++◌, Some, None}
+use Rattle.std.specs.Prelude.{[], ◌++◌, Some, None}
 use Rattle.sql_reader.specs.declared.reach.Scope.{Scope, Scope-F, fold-Scope}
-use Rattle.sql_reader.specs.Reaches.{Placed, Reach}
+use Rattle.sql_reader.specs.Reaches.{Reach}
 
 abbrev pub scope_step : Scope-F Reach → Reach
 scope_step scope = scope.own.now ++ elim (scope.outer) [ None ↦ [] | Some outer ↦ outer.now ]

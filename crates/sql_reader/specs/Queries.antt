@@ -22,7 +22,7 @@ use Rattle.sql_algebra.specs.declared.text.ItemText.{ItemText}
 use Rattle.sql_algebra.specs.declared.text.ConjunctText.{ConjunctText, ConjunctText-F, fold-ConjunctText}
 use Rattle.sql_algebra.specs.declared.text.ColumnRef.{ColumnRef}
 use Rattle.first_faults.specs.declared.faults.Fault.{Fault}
-use Rattle.sql_reader.specs.Reaches.{Reach, placed, reach_within}
+use Rattle.sql_reader.specs.Reaches.{Reach, reach_within}
 use Rattle.sql_reader.specs.Types.{leaf_class}
 use Rattle.sql_reader.specs.Phases.{chain_to, first_fault}
 

@@ -14,7 +14,7 @@ use Rattle.graph_ast.specs.declared.catalog.Table.{Table}
 use Rattle.graph_ast.specs.declared.catalog.Column.{Column}
 use Rattle.graph_ast.specs.Types.{class_of_type}
 use Rattle.condition_grammar.specs.declared.spanned.Spanned.{Spanned}
-use Rattle.condition_grammar.specs.Spans.{first_span, without_first, span_of}
+use Rattle.condition_grammar.specs.Spans.{first_span, without_first}
 use Rattle.sql_algebra.specs.declared.text.ColumnRef.{ColumnRef}
 use Rattle.sql_algebra.specs.Catalogs.{column_named}
 use Rattle.first_faults.specs.declared.faults.Fault.{Fault}

@@ -1,4 +1,4 @@
-use Rattle.std.proofs.Common.{◌≡◌, ◌∙◌, sym, ap}
+use Rattle.std.proofs.Common.{◌∙◌, sym, ap}
 use Rattle.expr_tree.specs.declared.tree.Expr.TheVariants as v
 use Rattle.sql_reader.specs.Levels.{reach_of}
 use Rattle.sql_reader.specs.Names.{leaf_names}

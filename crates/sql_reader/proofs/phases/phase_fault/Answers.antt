@@ -1,4 +1,4 @@
-use Rattle.std.proofs.Common.{◌≡◌, ◌∙◌, ap, None}
+use Rattle.std.proofs.Common.{◌≡◌, ◌∙◌, None}
 use Rattle.first_faults.specs.Faults.{first_of}
 use Rattle.sql_reader.specs.Levels.{reach_of}
 use Rattle.sql_reader.specs.Phases.{faults_in}

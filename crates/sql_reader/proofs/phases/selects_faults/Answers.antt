@@ -1,4 +1,4 @@
-use Rattle.std.proofs.Common.{rules, ◌≡◌, ◌∙◌, ℕ, ◌+◌, ◌<◌, List, length, drop, sym, ap}
+use Rattle.std.proofs.Common.{rules, ◌∙◌, ℕ, ◌+◌, ◌<◌, List, length, drop, sym, ap}
 use Rattle.std.specs.List.{flat_map}
 use Rattle.sql_algebra.specs.declared.text.SelectText.{SelectText}
 use Rattle.first_faults.specs.declared.faults.Fault.{Fault}

@@ -1,5 +1,4 @@
 use Rattle.std.proofs.Common.{◌≡◌, ◌∙◌, sym, ap, Some, None, option_map, bytes_eq}
-use Rattle.std.specs.List.{find}
 use Rattle.sql_algebra.proofs.ReachLemmas.{find_first, find_second}
 use Rattle.sql_reader.specs.Held.{item_held}
 use Rattle.sql_reader.specs.Reaches.{Placed, item_of}

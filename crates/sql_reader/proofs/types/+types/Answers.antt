@@ -1,14 +1,10 @@
-use Rattle.std.proofs.Common.{rules, ◌≡◌, ◌∙◌, ◌+◌, ◌<◌, ◌∷◌, List, length, map, drop, sym, ap, Option, None}
-use Rattle.pgq_base.specs.declared.value.Class.{Class}
+use Rattle.std.proofs.Common.{rules, ◌≡◌, ◌∙◌, ◌<◌, ◌∷◌, length, map, drop, sym, ap}
 use Rattle.expr_tree.specs.declared.tree.Expr.TheVariants as v
 use Rattle.condition_grammar.specs.Spans.{first_span}
-use Rattle.first_faults.specs.declared.faults.Fault.{Fault}
 use Rattle.first_faults.specs.Faults.{first_of}
 use Rattle.first_faults.proofs.Steps.{first_of_append}
-use Rattle.sql_algebra.specs.declared.text.ColumnRef.{ColumnRef}
 use Rattle.sql_reader.specs.Levels.{reach_of}
-use Rattle.sql_reader.specs.Reaches.{Reach}
-use Rattle.sql_reader.specs.Types.{leaf_class, typed, total, mismatch, operand_faults, differing}
+use Rattle.sql_reader.specs.Types.{leaf_class, typed, total, mismatch, differing}
 use Rattle.sql_reader.proofs.TypeSteps.{class_typed, compare_done, all_done, any_done, not_done, is_done, list_done, between_done, coalesce_done, rest_from, differing_begun, loop_rest, loop_found}
 use Rattle.sql_reader.proofs.types.+types.Goals as goal
 

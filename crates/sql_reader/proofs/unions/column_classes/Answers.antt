@@ -1,8 +1,8 @@
-use Rattle.std.proofs.Common.{◌≡◌, ◌∙◌, ◌++◌, [], map, sym, ap}
+use Rattle.std.proofs.Common.{◌≡◌, ◌∙◌, map, sym, ap}
 use Rattle.sql_algebra.specs.declared.text.ColumnText.{ColumnText}
 use Rattle.first_faults.proofs.Steps.{append_nothing}
 use Rattle.sql_reader.specs.Levels.{reach_of}
-use Rattle.sql_reader.specs.Reaches.{Placed, items_placed, reach_within}
+use Rattle.sql_reader.specs.Reaches.{items_placed}
 use Rattle.sql_reader.specs.Types.{class_of_value}
 use Rattle.sql_reader.specs.Phases.{column_classes}
 use Rattle.sql_reader.proofs.MadeSelects.{lifted}

@@ -1,5 +1,5 @@
 use Rattle.std.proofs.Common.{rules, ◌≡◌, ◌∙◌, ◌∷◌, sym, ap}
-use Rattle.expr_tree.specs.Classes.{same_class, class_in}
+use Rattle.expr_tree.specs.Classes.{class_in}
 use Rattle.condition_grammar.specs.Spans.{first_span}
 use Rattle.first_faults.specs.Faults.{first_of, when}
 use Rattle.sql_reader.specs.Types.{leaf_class}

@@ -1,4 +1,4 @@
-use Rattle.std.proofs.Common.{rules, ◌≡◌, ◌∙◌, ℕ, ◌+◌, ◌<◌, length, drop, sym, ap}
+use Rattle.std.proofs.Common.{rules, ◌∙◌, ℕ, ◌+◌, ◌<◌, length, drop, sym, ap}
 use Rattle.std.specs.List.{flat_map}
 use Rattle.first_faults.specs.Faults.{first_of}
 use Rattle.first_faults.proofs.Steps.{flat_step}

@@ -1,6 +1,5 @@
-use Rattle.std.proofs.Common.{◌≡◌, ◌∙◌, List, map, refl, sym, ap, Option, None, Some, option_map, option_copied, slice_get, bytes_eq}
+use Rattle.std.proofs.Common.{◌≡◌, ◌∙◌, List, refl, sym, ap, Option, None, Some, option_map, option_copied, slice_get, bytes_eq}
 use denote.Ref.{Bor}
-use Rattle.std.specs.List.{find}
 use Rattle.sql_reader.specs.declared.reach.Item.{Item}
 use Rattle.sql_reader.specs.Held.{item_held}
 use Rattle.sql_reader.specs.Reaches.{Placed, item_of}

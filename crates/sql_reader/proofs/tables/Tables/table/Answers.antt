@@ -1,4 +1,4 @@
-use Rattle.std.proofs.Common.{◌≡◌, ◌∙◌, List, map, sym, ap, None, Some, slice_get, bytes_eq}
+use Rattle.std.proofs.Common.{◌∙◌, List, sym, ap, slice_get, bytes_eq}
 use Rattle.std.specs.List.{find}
 use Rattle.graph_ast.specs.declared.catalog.Table.{Table}
 use Rattle.first_faults.specs.Places.{first_place}
