@@ -38,7 +38,8 @@ module _ {X : Type 0} (last : List X) where
   longer_behind x (row ∷ rows) =
       map-parts (λ rest. x ∷ rest) (longer row) (flat_map longer rows) ∙ ap₂ (λ l m. l ++ m) (map_twice (λ rest. x ∷ rest) (λ y. row ++ y ∷ []) last) (longer_behind x rows)
 
-  longer_all : (rows : List (List X)) (xs : List X) → flat_map (λ x. map (λ rest. x ∷ rest) (flat_map longer rows)) xs ≡ flat_map longer (flat_map (λ x. map (λ rest. x ∷ rest) rows) xs)
+  longer_all : (rows : List (List X)) (xs : List X) → flat_map (λ x. map (λ rest. x ∷ rest) (flat_map longer rows)) xs ≡ flat_map longer
+      (flat_map (λ x. map (λ rest. x ∷ rest) rows) xs)
   longer_all rows [] = refl
   longer_all rows (x ∷ xs) =
       ap₂ (λ l m. l ++ m) (longer_behind x rows) (longer_all rows xs) ∙ sym (flat_parts longer (map (λ rest. x ∷ rest) rows) (flat_map (λ y. map (λ rest. y ∷ rest) rows) xs))
@@ -96,11 +97,14 @@ pub shared_shorter : (query : CheckedQuery) (xs ys : List PathBlock) → is_shar
 shared_shorter query xs ys h =
     all_from (λ name. all_same nat_eq (tagged name (flat_map (λ part. part.tags) xs) (flat_map (λ part. part.elements) xs))) (query_singletons query)
     (λ name k.
-    let begins = tagged_longer name (flat_map (λ (part : PathBlock). part.tags) xs) (flat_map (λ (part : PathBlock). part.tags) ys) (flat_map (λ (part : PathBlock). part.elements) xs) (flat_map (λ (part : PathBlock). part.elements) ys) in
-    let all = each_of (λ name. all_same nat_eq (tagged name (flat_map (λ (part : PathBlock). part.tags) (xs ++ ys)) (flat_map (λ (part : PathBlock). part.elements) (xs ++ ys)))) (query_singletons query) h name k in
+    let begins = tagged_longer name (flat_map (λ (part : PathBlock). part.tags) xs) (flat_map (λ (part : PathBlock). part.tags) ys)
+    (flat_map (λ (part : PathBlock). part.elements) xs) (flat_map (λ (part : PathBlock). part.elements) ys) in
+    let all = each_of (λ name. all_same nat_eq
+    (tagged name (flat_map (λ (part : PathBlock). part.tags) (xs ++ ys)) (flat_map (λ (part : PathBlock). part.elements) (xs ++ ys)))) (query_singletons query) h name k in
     same_shorter nat_eq (tagged name (flat_map (λ (part : PathBlock). part.tags) xs) (flat_map (λ (part : PathBlock). part.elements) xs)) begins.rest
     (ap (all_same nat_eq) (sym begins.is)
-    ∙ ap₂ (λ t e. all_same nat_eq (tagged name t e)) (sym (flat_parts (λ (part : PathBlock). part.tags) xs ys)) (sym (flat_parts (λ (part : PathBlock). part.elements) xs ys)) ∙ all))
+    ∙ ap₂ (λ t e. all_same nat_eq (tagged name t e)) (sym (flat_parts (λ (part : PathBlock). part.tags) xs ys)) (sym (flat_parts (λ (part : PathBlock). part.elements) xs ys))
+    ∙ all))
 
 pub shared_end : (query : CheckedQuery) (lists : List (List PathBlock)) (last : List PathBlock)
     → filter (is_shared query) (combinations (lists ++ last ∷ [])) ≡ flat_map (joined_by query last) (filter (is_shared query) (combinations lists))
