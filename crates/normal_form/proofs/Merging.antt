@@ -226,7 +226,7 @@ module _ {V : Type 0} (items : V → List ℕ) (vs : List V) (words : List (List
           subst (λ l. AreKept words (map items after) l) (sym m)
           (record { keys = keys ∙ kept.keys ∙ sym (same_keys words blocks i f.1); met = still_met words blocks i f.1 ∙ kept.met })
 
-map_twice : {X Y Z : Type 0} (f : Y → Z) (g : X → Y) (xs : List X) → map f (map g xs) ≡ map (λ x. f (g x)) xs
+pub map_twice : {X Y Z : Type 0} (f : Y → Z) (g : X → Y) (xs : List X) → map f (map g xs) ≡ map (λ x. f (g x)) xs
 map_twice f g [] = refl
 map_twice f g (x ∷ xs) = ap (λ l. f (g x) ∷ l) (map_twice f g xs)
 

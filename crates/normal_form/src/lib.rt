@@ -15,5 +15,5 @@ mod tags;
 #[cfg(test)]
 mod tests;
 
-pub use laws::{blocks_by_findings, findings_gathered};
+pub use laws::{blocks_by_findings, blocks_by_path, findings_gathered};
 pub use paths::path_blocks;
