@@ -26,7 +26,7 @@ use Rattle.pgq_program.specs.Texts.{GivesDue}
 abbrev pub IsPlaced : Role → ℕ → Refusal → Type 0
 IsPlaced role n refusal = (refusal.role ≡ role) × LiesIn n refusal.span
 
-ruled_by : (n : ℕ) (o : Option Fault) (catalog : Catalog) (r : Refusal) → FaultLiesIn n o → judged o catalog ≡ Err (s.Refused r) → IsPlaced Schema n r
+ruled_by : (n : ℕ) (o : Option Fault) (catalog : Catalog) (r : Refusal) → FaultLiesIn n o → judged o catalog ≡ Err r → IsPlaced Schema n r
 ruled_by n None catalog r lies e = absurd cc
 ruled_by n (Some f) catalog r lies e = let same : refusal_of f ≡ r = cc in subst (IsPlaced Schema n) same (refl, (lies.ordered, lies.within))
 
