@@ -12,3 +12,7 @@ pub mod TellingSelects
 pub mod TellingTexts
 pub mod ReadingLemmas
 pub mod Spelled
+pub mod ShapedLiterals
+pub mod RuleValues
+pub mod ShapedConditions
+pub mod ShapedTexts
