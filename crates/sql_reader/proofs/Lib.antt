@@ -16,3 +16,6 @@ pub mod ShapedLiterals
 pub mod RuleValues
 pub mod ShapedConditions
 pub mod ShapedTexts
+pub mod FaultSpans
+pub mod SoundAnswers
+pub mod SizedTokens

@@ -1,7 +1,6 @@
 -- What holds of the values of rules over tokens whose decimals are sizes: one lemma for each way to put rules together.
 use Rattle.std.proofs.Common.{◌≡◌, ℕ, Bool, true, Option, Some, None, List, [], ◌∷◌, ◌++◌, inl, inr}
 use Rattle.std.specs.List.{AllByRecursion}
-use Rattle.pgq_base.specs.declared.refusal.Span.{Span}
 use Rattle.sql_lexer.specs.declared.token.Token.{Token}
 use Rattle.token_marks.specs.declared.mark.Mark.{Mark}
 use Rattle.token_grammar.specs.Grammar.{Grammar, many_tokens}

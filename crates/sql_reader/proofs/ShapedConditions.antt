@@ -1,5 +1,5 @@
 -- The conditions of the grammar have its shape.
-use Rattle.std.proofs.Common.{◌≡◌, refl, ap, ◌∙◌, Bool, true, false, Option, Some, None, List, [], ◌∷◌, map}
+use Rattle.std.proofs.Common.{◌≡◌, refl, ◌∙◌, Bool, true, false, Option, Some, None, List, [], ◌∷◌, map}
 use Rattle.std.specs.List.{list_all}
 use Rattle.pgq_base.specs.declared.refusal.Span.{Span}
 use Rattle.pgq_base.specs.declared.value.Value.{Value}
@@ -20,12 +20,12 @@ use Rattle.condition_grammar.specs.Conditions as g
 use Rattle.condition_grammar.specs.Conditions.{Inside}
 use Rattle.sql_algebra.specs.declared.text.ColumnRef.{ColumnRef}
 use Rattle.sql_algebra.specs.declared.text.SelectText.{SelectText}
-use Rattle.sql_algebra.specs.Grammar.{Nested, HeldNested, HeldInside, Production, leaf, cast, own_operand, operand, test as test_rule, member, condition, list}
+use Rattle.sql_algebra.specs.Grammar.{Nested, HeldNested, HeldInside, leaf, cast, own_operand, operand, test as test_rule, member, condition, list}
 use Rattle.sql_parser.specs.Operands.{dotted}
 use Rattle.sql_reader.specs.Shapes.{node_is_shaped, shape_step, is_shaped, value_is_shaped, select_is_shaped, AreSized}
 use Rattle.sql_reader.proofs.Clean.{pair}
 use Rattle.sql_reader.proofs.ShapedLiterals.{HasClass, literal_some, date_token}
-use Rattle.sql_reader.proofs.RuleValues.{Parts, Of, Gives, Any, IfGiven, Each, any_gives, one_gives, mapped_gives, seq_gives, either_gives, opt_gives, many_gives, behind_gives, list_gives, nest_gives}
+use Rattle.sql_reader.proofs.RuleValues.{Parts, Of, Gives, Any, IfGiven, Each, any_gives, one_gives, mapped_gives, seq_gives, either_gives, opt_gives, many_gives, behind_gives, nest_gives}
 
 abbrev pub Condition : Type 0
 Condition = Spanned ColumnRef
@@ -43,11 +43,12 @@ Filled cs = (is_filled cs ≡ true) × Each Shaped cs
 -- ---- the forms of expressions
 
 -- an expression has the shape, where its children and its node have
-formed : (x : Expr-F ColumnRef (Expr ColumnRef)) (e : Expr ColumnRef) → roll-Expr ColumnRef x ≡ e
-    → list_all (λ b. b) (children_of (map-Expr ColumnRef (Expr ColumnRef) Bool is_shaped x)) ≡ true → node_is_shaped (map-Expr ColumnRef (Expr ColumnRef) Bool is_shaped x) ≡ true → is_shaped e ≡ true
-formed x e is children node =
-    at_layer shape_step x e is
-    ∙ pair (list_all (λ b. b) (children_of (map-Expr ColumnRef (Expr ColumnRef) Bool is_shaped x))) (node_is_shaped (map-Expr ColumnRef (Expr ColumnRef) Bool is_shaped x)) children node
+abbrev told_of : Expr-F ColumnRef (Expr ColumnRef) → Expr-F ColumnRef Bool
+told_of x = map-Expr ColumnRef (Expr ColumnRef) Bool is_shaped x
+
+formed : (x : Expr-F ColumnRef (Expr ColumnRef)) (e : Expr ColumnRef) → roll-Expr ColumnRef x ≡ e → list_all (λ b. b) (children_of (told_of x)) ≡ true
+    → node_is_shaped (told_of x) ≡ true → is_shaped e ≡ true
+formed x e is children node = at_layer shape_step x e is ∙ pair (list_all (λ b. b) (children_of (told_of x))) (node_is_shaped (told_of x)) children node
 
 all_shaped : (cs : List Condition) → Each Shaped cs → list_all (λ b. b) (map is_shaped (map tree_of cs)) ≡ true
 all_shaped [] h = refl
@@ -69,7 +70,8 @@ ranged_shaped n a b c p q r =
 
 listed_shaped : (n : Bool) (a : Condition) (bs : List Condition) (closing : Span) → Shaped a → Filled bs → Shaped (listed n bs closing a)
 listed_shaped n a bs closing p q =
-    formed (Expr-F.InList a.tree (map tree_of bs) n) (v.InList a.tree (map tree_of bs) n) (v.rolls-InList a.tree (map tree_of bs) n) (all_shaped (a ∷ bs) (p, q.1)) (some_shaped bs q.0)
+    formed (Expr-F.InList a.tree (map tree_of bs) n) (v.InList a.tree (map tree_of bs) n) (v.rolls-InList a.tree (map tree_of bs) n)
+    (all_shaped (a ∷ bs) (p, q.1)) (some_shaped bs q.0)
 
 tested_shaped : (t : Test) (n : Bool) (word : Span) (a : Condition) → Shaped a → Shaped (tested t n word a)
 tested_shaped t n word a p = formed (Expr-F.Is a.tree t n) (v.Is a.tree t n) (v.rolls-Is a.tree t n) (all_shaped (a ∷ []) (p, tt)) refl
@@ -124,7 +126,8 @@ module _ {b : Parts} (inner : Inner b) where
   unfolding g.literals
   literals_shaped =
       either_gives (one_gives (λ t e s. literal_shaped t.span _ (literal_some false t.kind s)))
-      (either_gives (mapped_gives (seq_gives any_gives (one_gives {P = λ (t : Token). HasClass (g.literal_of true t.kind)} (λ t e s. literal_some true t.kind s))) (λ d h. literal_shaped (reach d.0 d.1.span) (g.literal_of true d.1.kind) h.1))
+      (either_gives (mapped_gives (seq_gives any_gives (one_gives {P = λ (t : Token). HasClass (g.literal_of true t.kind)} (λ t e s. literal_some true t.kind s)))
+      (λ d h. literal_shaped (reach d.0 d.1.span) (g.literal_of true d.1.kind) h.1))
       (either_gives (one_gives (λ t e s. literal_shaped t.span _ refl))
       (either_gives (mapped_gives any_gives (λ s h. literal_shaped s _ refl)) (mapped_gives any_gives (λ s h. literal_shaped s _ refl)))))
 
@@ -138,7 +141,8 @@ module _ {b : Parts} (inner : Inner b) where
 
   leaf_shaped : Gives b leaf Shaped
   unfolding g.leaf_or_date
-  leaf_shaped = either_gives (mapped_gives (seq_gives any_gives dotted_shaped) (λ d h. h.1 d.0)) (mapped_gives (seq_gives any_gives (either_gives dotted_shaped date_shaped)) (λ d h. h.1 d.0))
+  leaf_shaped = either_gives (mapped_gives (seq_gives any_gives dotted_shaped) (λ d h. h.1 d.0))
+      (mapped_gives (seq_gives any_gives (either_gives dotted_shaped date_shaped)) (λ d h. h.1 d.0))
 
   cast_shaped : Gives b cast Shaped
   unfolding cast
@@ -169,12 +173,14 @@ module _ {b : Parts} (inner : Inner b) where
   including_shaped : Gives b (g.including ColumnRef Nested HeldNested own_operand) Flagged
   unfolding g.including
   including_shaped =
-      either_gives (mapped_gives (seq_gives any_gives (seq_gives operand_shaped (seq_gives any_gives operand_shaped))) (λ d h n c p. ranged_shaped n c d.1.0 d.1.1.1 p h.1.0 h.1.1.1))
+      either_gives (mapped_gives (seq_gives any_gives (seq_gives operand_shaped (seq_gives any_gives operand_shaped)))
+      (λ d h n c p. ranged_shaped n c d.1.0 d.1.1.1 p h.1.0 h.1.1.1))
       (mapped_gives (seq_gives any_gives (nest_gives Inside.operands Filled (inner.told Inside.operands))) (λ d h n c p. listed_shaped n c d.1.1 d.1.2 p h.1))
 
   predicate_shaped : Gives b (g.predicate_tail ColumnRef Nested HeldNested own_operand) Tailed
   unfolding g.predicate_tail
-  predicate_shaped = either_gives comparing_shaped (either_gives (mapped_gives including_shaped (λ f h. h false)) (mapped_gives (seq_gives any_gives including_shaped) (λ d h. h.1 true)))
+  predicate_shaped = either_gives comparing_shaped (either_gives (mapped_gives including_shaped (λ f h. h false))
+      (mapped_gives (seq_gives any_gives including_shaped) (λ d h. h.1 true)))
 
   truth_shaped : Gives b (g.truth_test ColumnRef Nested HeldNested) Tailed
   unfolding g.truth_test

@@ -50,7 +50,8 @@ parts_shaped s columns items conjuncts =
     fold-roll-SelectText Bool Bool conjunct_step select_step (out-SelectText s)
     ∙ pair (list_all (λ (c : ColumnText). value_is_shaped c.value) s.columns) (list_all item_is_shaped s.from && list_all (λ b. b) (map conjunct_is_shaped s.conjuncts))
     (each_true (λ (c : ColumnText). value_is_shaped c.value) s.columns columns)
-    (pair (list_all item_is_shaped s.from) (list_all (λ b. b) (map conjunct_is_shaped s.conjuncts)) (each_true item_is_shaped s.from items) (each_mapped conjunct_is_shaped s.conjuncts conjuncts))
+    (pair (list_all item_is_shaped s.from) (list_all (λ b. b) (map conjunct_is_shaped s.conjuncts))
+    (each_true item_is_shaped s.from items) (each_mapped conjunct_is_shaped s.conjuncts conjuncts))
 
 -- what follows NOT
 abbrev BehindNot : Of (Span → ConjunctText)
@@ -71,7 +72,8 @@ module _ {b : Parts} (inner : Inner b) where
 
   joined_shaped : Gives b joined ItemShaped
   unfolding joined
-  joined_shaped = mapped_gives (seq_gives any_gives (seq_gives any_gives (seq_gives any_gives (list_gives m.And (member_shaped inner))))) (λ d h. each_true value_is_shaped d.1.1.1 h.1.1.1)
+  joined_shaped = mapped_gives (seq_gives any_gives (seq_gives any_gives (seq_gives any_gives (list_gives m.And (member_shaped inner)))))
+      (λ d h. each_true value_is_shaped d.1.1.1 h.1.1.1)
 
   next_shaped : Gives b next_chain ItemShaped
   unfolding next_chain
@@ -87,7 +89,8 @@ module _ {b : Parts} (inner : Inner b) where
 
   after_not_shaped : Gives b after_not BehindNot
   unfolding after_not
-  after_not_shaped = either_gives (mapped_gives exists_shaped (λ s h word. inner_shaped s h)) (mapped_gives (test_shaped inner) (λ c h word. plain_shaped (not_if (Some word) c) (not_shaped (Some word) c h)))
+  after_not_shaped = either_gives (mapped_gives exists_shaped (λ s h word. inner_shaped s h))
+      (mapped_gives (test_shaped inner) (λ c h word. plain_shaped (not_if (Some word) c) (not_shaped (Some word) c h)))
 
   conjunct_shaped : Gives b conjunct ConjunctShaped
   unfolding conjunct
@@ -99,7 +102,8 @@ module _ {b : Parts} (inner : Inner b) where
 
   pub select_shaped : Gives b select SelectShaped
   unfolding select
-  select_shaped = mapped_gives (seq_gives any_gives (seq_gives (list_gives m.Comma column_shaped) (seq_gives any_gives (seq_gives from_shaped where_shaped)))) (λ d h. parts_shaped _ h.1.0 h.1.1.1.0 h.1.1.1.1)
+  select_shaped = mapped_gives (seq_gives any_gives (seq_gives (list_gives m.Comma column_shaped) (seq_gives any_gives (seq_gives from_shaped where_shaped))))
+      (λ d h. parts_shaped _ h.1.0 h.1.1.1.0 h.1.1.1.1)
 
   inside_gives : (k : Inside Nested) → Gives b (inside k) (InsideHas k)
   inside_gives Inside.condition = condition_shaped inner
@@ -118,7 +122,8 @@ level (suc n) = record { told = λ k d i. (inside_gives (level n) k).holds d i }
 text_shaped : {b : Parts} → Inner b → Gives b sql HasShape
 unfolding sql
 text_shaped inner =
-    mapped_gives (seq_gives (seq_gives (select_shaped inner) (many_gives (mapped_gives (seq_gives any_gives (seq_gives any_gives (select_shaped inner))) (λ d h. h.1.1)))) any_gives) (λ d h.
+    mapped_gives (seq_gives (seq_gives (select_shaped inner) (many_gives (mapped_gives (seq_gives any_gives (seq_gives any_gives (select_shaped inner)))
+    (λ d h. h.1.1)))) any_gives) (λ d h.
     each_true select_is_shaped (d.0.0 ∷ d.0.1) h.0)
 
 pub has_shape : (ts : List Token) (s : SqlText) → AreSized ts → SpellsSql ts s → HasShape s

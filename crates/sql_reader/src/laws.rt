@@ -1,6 +1,7 @@
-ghost use Rattle.std.specs.Prelude.{◌≡◌, List as Sequence, None, map};
+ghost use Rattle.std.specs.Prelude.{◌≡◌, ℕ, List as Sequence, None, map};
 ghost use Rattle.graph_ast.specs.declared.catalog.Catalog.{Catalog};
 ghost use Rattle.sql_lexer.specs.declared.token.Token.{Token as Lexeme};
+ghost use Rattle.sql_lexer.specs.Texts.{AreTokens};
 ghost use Rattle.sql_algebra.specs.declared.text.SqlText.{SqlText as Text};
 ghost use Rattle.sql_algebra.specs.Meant.{told_select, bare_select};
 ghost use Rattle.sql_algebra.specs.Soundness.{IsSound};
@@ -29,4 +30,9 @@ pub fn query_is_told()
 /// A law: a text that tokens spell has the shape that the grammar gives, if their decimals are sizes.
 pub fn grammar_gives_shape()
     ensures { (tokens : Sequence Lexeme) (text : Text) → AreSized tokens → SpellsSql tokens text → HasShape text }
+{}
+
+/// A law: the decimals among the tokens of a text are sizes.
+pub fn lexed_are_sized()
+    ensures { (text : Sequence ℕ) (tokens : Sequence Lexeme) → AreTokens text tokens → AreSized tokens }
 {}
