@@ -12,3 +12,10 @@ pub mod TellingSelects
 pub mod TellingTexts
 pub mod ReadingLemmas
 pub mod Spelled
+pub mod ShapedLiterals
+pub mod RuleValues
+pub mod ShapedConditions
+pub mod ShapedTexts
+pub mod FaultSpans
+pub mod SoundAnswers
+pub mod SizedTokens

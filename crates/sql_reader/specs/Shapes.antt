@@ -1,7 +1,12 @@
--- The shape of the trees that the grammar gives: no literal is Null, and a list of IN or COALESCE has a member.
-use Rattle.std.specs.Prelude.{◌≡◌, Bool, true, ◌&&◌, is_some}
-use Rattle.std.specs.List.{list_all}
+-- The shape of the trees that the grammar gives: no literal is Null, and a list of IN or COALESCE has a member. The grammar gives it to
+-- a text whose decimals are sizes, as those that `lex` answers are.
+use Rattle.std.specs.Prelude.{◌≡◌, Bool, true, ◌&&◌, is_some, List}
+use Rattle.std.specs.List.{list_all, AllByRecursion}
+use Rattle.pgq_base.specs.Numerals.{is_size}
 use Rattle.pgq_base.specs.Values.{class_of_value}
+use Rattle.sql_lexer.specs.declared.token.Kind.{Kind}
+use Rattle.sql_lexer.specs.declared.token.Kind.TheVariants.{Decimal}
+use Rattle.sql_lexer.specs.declared.token.Token.{Token}
 use Rattle.expr_tree.specs.declared.tree.Expr.{Expr}
 use Rattle.expr_tree.specs.declared.tree.Expr.TheOpen.{Expr-F}
 use Rattle.expr_tree.specs.declared.tree.Expr.TheFolds.{fold-Expr}
@@ -55,3 +60,12 @@ conjunct_is_shaped = fold-ConjunctText Bool Bool conjunct_step select_step
 -- each expression of the text has that shape
 abbrev pub HasShape : SqlText → Type 0
 HasShape text = list_all select_is_shaped text.selects ≡ true
+
+-- a decimal is a size with the least scale that it has, of at most 18 digits
+abbrev pub IsSized : Kind → Type 0
+IsSized (Decimal size) = is_size size ≡ true
+IsSized other = Unit {0}
+
+-- so is each decimal among the tokens
+abbrev pub AreSized : List Token → Type 0
+AreSized tokens = AllByRecursion (λ token. IsSized token.kind) tokens

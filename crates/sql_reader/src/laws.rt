@@ -1,11 +1,14 @@
-ghost use Rattle.std.specs.Prelude.{◌≡◌, None, map};
+ghost use Rattle.std.specs.Prelude.{◌≡◌, ℕ, List as Sequence, None, map};
 ghost use Rattle.graph_ast.specs.declared.catalog.Catalog.{Catalog};
+ghost use Rattle.sql_lexer.specs.declared.token.Token.{Token as Lexeme};
+ghost use Rattle.sql_lexer.specs.Texts.{AreTokens};
 ghost use Rattle.sql_algebra.specs.declared.text.SqlText.{SqlText as Text};
 ghost use Rattle.sql_algebra.specs.Meant.{told_select, bare_select};
 ghost use Rattle.sql_algebra.specs.Soundness.{IsSound};
+ghost use Rattle.sql_parser.specs.Outcomes.{SpellsSql};
 ghost use Rattle.sql_reader.specs.Phases.{first_fault};
 ghost use Rattle.sql_reader.specs.Queries.{query_of};
-ghost use Rattle.sql_reader.specs.Shapes.{HasShape};
+ghost use Rattle.sql_reader.specs.Shapes.{HasShape, AreSized};
 
 /// A law: the query that a text without a fault writes down is sound in the catalog, if the text has the shape that the
 /// grammar gives: no literal is Null, and a list of IN or COALESCE has a member.
@@ -22,4 +25,14 @@ pub fn sound_is_faultless()
 /// text tells.
 pub fn query_is_told()
     ensures { (catalog : Catalog) (text : Text) → map told_select text.selects ≡ map bare_select (query_of catalog text).selects }
+{}
+
+/// A law: a text that tokens spell has the shape that the grammar gives, if their decimals are sizes.
+pub fn grammar_gives_shape()
+    ensures { (tokens : Sequence Lexeme) (text : Text) → AreSized tokens → SpellsSql tokens text → HasShape text }
+{}
+
+/// A law: the decimals among the tokens of a text are sizes.
+pub fn lexed_are_sized()
+    ensures { (text : Sequence ℕ) (tokens : Sequence Lexeme) → AreTokens text tokens → AreSized tokens }
 {}

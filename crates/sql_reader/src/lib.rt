@@ -15,5 +15,7 @@ mod types;
 mod unions;
 
 pub use judging::judge_text;
-pub use laws::{faultless_is_sound, query_is_told, sound_is_faultless};
+pub use laws::{
+    faultless_is_sound, grammar_gives_shape, lexed_are_sized, query_is_told, sound_is_faultless,
+};
 pub use reading::read_sql;
