@@ -151,7 +151,7 @@ node_judged leaf node spans =
 
 pub in_compare : {L : Type 0} (leaf : L → Class) (e : Expr L) (op : Comparison) (a b : Expr L) (spans : List Span) → e ≡ v.Compare op a b →
     finished Truth (with_operand (with_operand (begun Alike spans) (typed leaf a)) (typed leaf b)) ≡ judge (typed leaf e) spans
-in_compare leaf e op  a b spans is =
+in_compare leaf e op a b spans is =
     node_judged leaf (Expr-F.Compare op (typed leaf a) (typed leaf b)) spans
     ∙ sym (ap (λ t. judge t spans) (at_layer (typed_step leaf) (Expr-F.Compare op a b) e (v.rolls-Compare op a b ∙ sym is)))
 
@@ -175,13 +175,13 @@ in_not leaf e a spans is =
 
 pub in_is : {L : Type 0} (leaf : L → Class) (e : Expr L) (a : Expr L) (t : Test) (negated : Bool) (spans : List Span) → e ≡ v.Is a t negated →
     finished Truth (with_operand (begun (asked_for t) spans) (typed leaf a)) ≡ judge (typed leaf e) spans
-in_is leaf e a  t  negated spans is =
+in_is leaf e a t negated spans is =
     node_judged leaf (Expr-F.Is (typed leaf a) t negated) spans
     ∙ sym (ap (λ t. judge t spans) (at_layer (typed_step leaf) (Expr-F.Is a t negated) e (v.rolls-Is a t negated ∙ sym is)))
 
 pub in_in_list : {L : Type 0} (leaf : L → Class) (e : Expr L) (a : Expr L) (es : List (Expr L)) (negated : Bool) (spans : List Span) → e ≡ v.InList a es negated →
     finished Truth (with_operands (with_operand (begun Alike spans) (typed leaf a)) (map (typed leaf) es)) ≡ judge (typed leaf e) spans
-in_in_list leaf e a  es   negated spans is =
+in_in_list leaf e a es negated spans is =
     node_judged leaf (Expr-F.InList (typed leaf a) (map (typed leaf) es) negated) spans
     ∙ sym (ap (λ t. judge t spans) (at_layer (typed_step leaf) (Expr-F.InList a es negated) e (v.rolls-InList a es negated ∙ sym is)))
 

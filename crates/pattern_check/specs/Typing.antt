@@ -1,18 +1,17 @@
 -- How the operands of a node are looked at, one after another: what is asked of the next one, the first faults so far, and the spans ahead.
-use Rattle.std.specs.Prelude.{List, [], ◌∷◌, ◌++◌, drop, Option, None, option_to_list}
+use Rattle.std.specs.Prelude.{List, [], ◌∷◌, drop, Option, None, option_to_list}
 use Rattle.pgq_base.specs.declared.refusal.Span.{Span}
 use Rattle.pgq_base.specs.declared.value.Class.{Class}
 use Rattle.pgq_base.specs.declared.value.Class.TheVariants as class
 use Rattle.expr_tree.specs.declared.tree.Test.{Test}
 use Rattle.expr_tree.specs.declared.tree.Test.TheVariants as test
-use Rattle.expr_tree.specs.declared.tree.Expr.TheOpen.{Expr-F}
 use Rattle.first_faults.specs.declared.faults.Fault.{Fault}
 use Rattle.first_faults.specs.Faults.{first_of}
 use Rattle.pattern_check.specs.declared.types.Wanted.{Wanted}
 use Rattle.pattern_check.specs.declared.types.Wanted.TheVariants.{Anything, Truths, Alike, Of}
 use Rattle.pattern_check.specs.declared.types.Row.{Row}
 use Rattle.pattern_check.specs.declared.types.Judged.{Judged}
-use Rattle.pattern_check.specs.TypeRules.{Operand, Typed, class_differs, not_truth, own_span, operand_of}
+use Rattle.pattern_check.specs.TypeRules.{Operand, Typed, class_differs, not_truth, own_span}
 
 -- ---- what is asked of operands
 

@@ -205,17 +205,11 @@ pub fn judge<'a>(
         }
         Expr::All(list) => {
             let row = begin(Wanted::Truths, spans);
-            finish(
-                Class::Truth,
-                operands(list.as_slice(), row, catalog, graph),
-            )
+            finish(Class::Truth, operands(list.as_slice(), row, catalog, graph))
         }
         Expr::Any(list) => {
             let row = begin(Wanted::Truths, spans);
-            finish(
-                Class::Truth,
-                operands(list.as_slice(), row, catalog, graph),
-            )
+            finish(Class::Truth, operands(list.as_slice(), row, catalog, graph))
         }
         Expr::Not(a) => {
             let row = begin(Wanted::Truths, spans);
@@ -227,10 +221,7 @@ pub fn judge<'a>(
         }
         Expr::InList(a, list, _) => {
             let row = operand(a.get(), begin(Wanted::Alike, spans), catalog, graph);
-            finish(
-                Class::Truth,
-                operands(list.as_slice(), row, catalog, graph),
-            )
+            finish(Class::Truth, operands(list.as_slice(), row, catalog, graph))
         }
         Expr::Between(a, b, c, _) => {
             let row = operand(a.get(), begin(Wanted::Alike, spans), catalog, graph);
@@ -246,12 +237,7 @@ pub fn judge<'a>(
 }
 
 #[cycle(types)]
-fn operand<'a>(
-    expr: &Expr<PropertyRef>,
-    row: Row<'a>,
-    catalog: &Catalog,
-    graph: &Graph,
-) -> Row<'a>
+fn operand<'a>(expr: &Expr<PropertyRef>, row: Row<'a>, catalog: &Catalog, graph: &Graph) -> Row<'a>
     ensures { seen result ≡ with_operand (seen row.entry) (typed (leaf_class catalog.now graph.now) expr.now) }
 {
     let judged = judge(expr, row.spans, catalog, graph);

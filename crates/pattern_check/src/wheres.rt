@@ -71,12 +71,7 @@ fn in_factor(
 }
 
 #[cycle(wheres)]
-fn in_part(
-    part: &PartTree,
-    first: Option<Fault>,
-    catalog: &Catalog,
-    graph: &Graph,
-) -> Option<Fault>
+fn in_part(part: &PartTree, first: Option<Fault>, catalog: &Catalog, graph: &Graph) -> Option<Fault>
     ensures { result ≡ first_of first (flat_map (where_faults (leaf_class catalog.now graph.now)) (part_conditions (part_given conditions part.now))) }
 {
     let found = in_union(&part.body, first, catalog, graph);
@@ -84,12 +79,7 @@ fn in_part(
 }
 
 #[cycle(wheres)]
-fn in_union(
-    union: &Union,
-    first: Option<Fault>,
-    catalog: &Catalog,
-    graph: &Graph,
-) -> Option<Fault>
+fn in_union(union: &Union, first: Option<Fault>, catalog: &Catalog, graph: &Graph) -> Option<Fault>
     ensures { result ≡ first_of first (flat_map (where_faults (leaf_class catalog.now graph.now)) (body_conditions (body_given conditions union.now))) }
 {
     in_operands(union.operands.as_slice(), first, catalog, graph)

@@ -1,7 +1,7 @@
-use Rattle.std.proofs.Common.{rules, ◌≡◌, ◌∙◌, ap, map}
+use Rattle.std.proofs.Common.{◌∙◌, ap, map}
 use Rattle.pgq_base.specs.declared.value.Class.TheVariants.{Truth}
 use Rattle.pattern_check.specs.TypeRules.{typed, leaf_class}
-use Rattle.pattern_check.specs.Typing.{asked_for, class_asked, told, judge, Seen, seen, begun, joined, with_operand, with_operands, finished}
+use Rattle.pattern_check.specs.Typing.{class_asked, Seen, seen, begun, joined, with_operand, with_operands, finished}
 use Rattle.pattern_check.proofs.TypeSteps.{joined_is, in_compare, in_all, in_any, in_not, in_is, in_in_list, in_between, in_coalesce}
 use Rattle.pattern_check.proofs.types.+types.Goals as goal
 

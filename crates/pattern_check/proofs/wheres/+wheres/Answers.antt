@@ -1,4 +1,4 @@
-use Rattle.std.proofs.Common.{rules, ◌≡◌, ◌∙◌, ◌+◌, ◌<◌, List, ap, sym, map, drop, length, option_copied}
+use Rattle.std.proofs.Common.{rules, ◌≡◌, ◌∙◌, ◌+◌, ◌<◌, List, ap, map, drop, length, option_copied}
 use Rattle.std.specs.List.{flat_map}
 use Rattle.first_faults.specs.Faults.{first_of}
 use Rattle.graph_ast.specs.declared.query.Condition.{Condition}

@@ -1,4 +1,4 @@
-use Rattle.std.proofs.Common.{rules, ◌≡◌, ◌∙◌, ◌+◌, ◌<◌, List, ap, sym, drop, length}
+use Rattle.std.proofs.Common.{rules, ◌∙◌, ◌+◌, ◌<◌, List, ap, sym, drop, length}
 use Rattle.std.specs.List.{flat_map}
 use Rattle.graph_ast.specs.declared.query.Item.{Item}
 use Rattle.first_faults.specs.declared.faults.Fault.{Fault}
