@@ -159,7 +159,7 @@ fn in_columns(
     found
 }
 
-#[tactic(auto, using(crate::proofs::WhereSteps::apart), unfolding(crate::specs::Scopes::wheres))]
+#[tactic(auto, using(crate::proofs::PatternSteps::apart), unfolding(crate::specs::Scopes::wheres))]
 fn in_wheres(
     first: Option<Fault>,
     tree: &QueryTree,

@@ -3,7 +3,7 @@ use Rattle.std.specs.List.{flat_map}
 use Rattle.first_faults.specs.Faults.{first_of}
 use Rattle.pattern_check.specs.Scopes.{path_conditions}
 use Rattle.pattern_check.specs.TypeRules.{leaf_class, where_faults}
-use Rattle.pattern_check.proofs.WhereSteps.{items_on}
+use Rattle.pattern_check.proofs.PatternSteps.{items_on}
 use Rattle.pattern_check.proofs.wheres.in_paths.Goals as goal
 
 pub loop-path-preserved : goal.loop-path-preserved
