@@ -120,8 +120,10 @@ pub operands_on : (total : Measure) (xs : List Sequence) (i : ℕ) (x : Sequence
     counted_measure (either total (union_measure (map sequence_measure (map (sequence_given measuring) (drop i xs)))))
 operands_on total xs i x inside is =
     either_on total (sequence_measure (sequence_given measuring x)) (union_measure (map sequence_measure (map (sequence_given measuring) (drop (i + 1) xs))))
-    ∙ sym (ap (λ m. counted_measure (either total m)) (first_operand (sequence_measure (sequence_given measuring x)) (map sequence_measure (map (sequence_given measuring) (drop (i + 1) xs)))))
-    ∙ ap (λ y. counted_measure (either total (union_measure (sequence_measure (sequence_given measuring y) ∷ map sequence_measure (map (sequence_given measuring) (drop (i + 1) xs)))))) is
+    ∙ sym (ap (λ m. counted_measure (either total m)) (first_operand (sequence_measure (sequence_given measuring x))
+    (map sequence_measure (map (sequence_given measuring) (drop (i + 1) xs)))))
+    ∙ ap (λ y. counted_measure (either total (union_measure (sequence_measure (sequence_given measuring y)
+    ∷ map sequence_measure (map (sequence_given measuring) (drop (i + 1) xs)))))) is
     ∙ sym (ap (λ l. counted_measure (either total (union_measure (map sequence_measure (map (sequence_given measuring) l))))) (drop_more xs i x inside))
 
 many_at : (m limit n : ℕ) → limit < m → nat_lt limit (min n m) ≡ nat_lt limit n

@@ -12,3 +12,7 @@ body_inside {A} giving part =
 pub joints_inside : {A : Type 0} (giving : Giving A) (union : Union) → (out-Union union).joints ≡ (body_given giving union).joints
 joints_inside {A} giving union =
     sym (ap (λ (b : Body A). b.joints) (fold_out-Union A (Part A) (List A) (Body A) (factor_step giving) part_step sequence_step body_step union))
+
+pub condition_inside : {A : Type 0} (giving : Giving A) (part : PartTree) → (out-PartTree part).condition ≡ (part_given giving part).condition
+condition_inside {A} giving part =
+    sym (ap (λ (p : Part A). p.condition) (fold_out-PartTree A (Part A) (List A) (Body A) (factor_step giving) part_step sequence_step body_step part))

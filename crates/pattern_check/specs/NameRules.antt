@@ -21,18 +21,22 @@ use Rattle.graph_ast.specs.Lookups.{graph_at, graph_place}
 use Rattle.first_faults.specs.declared.faults.Fault.{Fault}
 use Rattle.first_faults.specs.Faults.{fault, when}
 use Rattle.first_faults.specs.Names.{has_text, repeated}
-use Rattle.pattern_check.specs.Patterns.{Giving, Body, body_given, from_all}
+use Rattle.pattern_check.specs.Patterns.{Giving, Body, body_given}
 use Rattle.pattern_check.specs.Scopes.{same_kind, Declaration, Around, Use, declarations, declares, first_declaration, operands_declare, uses}
 use Rattle.pattern_check.specs.Graphs.{elements_of_kind, is_label, has_property}
 
 -- ---- what the text has
 
+-- all of some
+abbrev pub row_labels : List (List Named) → List Named
+row_labels = flat_map (λ (labels : List Named). labels)
+
 abbrev pub labels_step : LabelExpr-F (List Named) → List Named
 labels_step (LabelExpr-F.Label label) = label ∷ []
 labels_step LabelExpr-F.AnyLabel = []
 labels_step (LabelExpr-F.Not labels) = labels
-labels_step (LabelExpr-F.And members) = flat_map (λ (labels : List Named). labels) members
-labels_step (LabelExpr-F.Or members) = flat_map (λ (labels : List Named). labels) members
+labels_step (LabelExpr-F.And members) = row_labels members
+labels_step (LabelExpr-F.Or members) = row_labels members
 
 -- the labels that a label expression names
 abbrev pub labels_in : LabelExpr → List Named
@@ -42,7 +46,7 @@ abbrev pub labels_of : Filler → List Named
 labels_of filler = flat_map labels_in (option_to_list filler.label)
 
 abbrev pub body_labels : Body (List Named) → List Named
-body_labels body = from_all (λ (labels : List Named). labels) body
+body_labels body = flat_map row_labels body.operands
 
 abbrev pub labelling : Giving (List Named)
 labelling = record { vertex = labels_of; edge = λ direction filler quantifier. labels_of filler; part = λ part quantifier. body_labels part.body }
@@ -160,7 +164,8 @@ same_truth false b = not b
 -- the variables of the first are variables of the second, and in quantified parts in both or in none
 abbrev pub has_variables_of : List Declaration → List Declaration → Bool
 has_variables_of xs ys =
-    list_all (λ (declaration : Declaration). is_declared ys declaration.variable.name && same_truth (is_group xs declaration.variable.name) (is_group ys declaration.variable.name)) xs
+    list_all (λ (declaration : Declaration).
+    is_declared ys declaration.variable.name && same_truth (is_group xs declaration.variable.name) (is_group ys declaration.variable.name)) xs
 
 -- UnionVariablesDiffer: the operand's set of variables, each with its being declared in a quantified part or not, differs from the first operand's
 abbrev pub variables_differ : List Declaration → List Declaration → Joint → List Fault
@@ -208,5 +213,6 @@ faults_by_graph catalog tree (Some place) = graph_faults (graph_at catalog place
 -- all faults of the phase
 unfoldable pub name_faults : Catalog → QueryTree → List Fault
 name_faults catalog tree =
-    faults_by_graph catalog tree (graph_place catalog tree.graph.name) ++ flat_map (λ (used : Use). variable_faults (declarations tree) used.around used.leaf.variable) (uses tree) ++
+    faults_by_graph catalog tree (graph_place catalog tree.graph.name) ++
+    flat_map (λ (used : Use). variable_faults (declarations tree) used.around used.leaf.variable) (uses tree) ++
     declaration_faults_behind [] (declarations tree) ++ flat_map union_faults tree.paths ++ column_faults tree.columns

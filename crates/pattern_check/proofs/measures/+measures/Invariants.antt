@@ -6,7 +6,8 @@ use Rattle.pattern_check.proofs.measures.+measures.Given as goal
 abbrev pub invariant-factors_measure-loop-factor : goal.invariant-factors_measure-loop-factor
 invariant-factors_measure-loop-factor l =
     (l.total ≡ counted_measure l.total) ×
-    (counted_measure (chained l.total (sequence_measure (map (given_by measuring) (drop l.factor-index l.factors)))) ≡ counted_measure (sequence_measure (map (given_by measuring) l.factors)))
+    (counted_measure (chained l.total (sequence_measure (map (given_by measuring) (drop l.factor-index l.factors)))) ≡
+    counted_measure (sequence_measure (map (given_by measuring) l.factors)))
 
 abbrev pub invariant-operands_measure-loop-operand : goal.invariant-operands_measure-loop-operand
 invariant-operands_measure-loop-operand l =
