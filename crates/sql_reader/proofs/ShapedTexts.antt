@@ -4,7 +4,7 @@ use Rattle.std.specs.List.{list_all}
 use Rattle.pgq_base.specs.declared.refusal.Span.{Span}
 use Rattle.sql_lexer.specs.declared.token.Token.{Token}
 use Rattle.token_marks.specs.declared.mark.Mark.TheVariants as m
-use Rattle.token_grammar.specs.Rules.{within, grammar}
+use Rattle.token_grammar.specs.Rules.{within}
 use Rattle.token_reading.specs.Tokens.{class}
 use Rattle.condition_grammar.specs.Spans.{not_if}
 use Rattle.condition_grammar.specs.Conditions.{Inside}

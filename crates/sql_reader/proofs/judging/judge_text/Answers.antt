@@ -1,4 +1,4 @@
-use Rattle.std.proofs.Common.{◌≡◌, ℕ, Some, sym, ap, ◌∙◌, subst}
+use Rattle.std.proofs.Common.{◌≡◌, Some, sym, ap, ◌∙◌, subst}
 use Rattle.sql_lexer.specs.Spans.{RefusalLiesIn}
 use Rattle.sql_reader.specs.Phases.{first_fault}
 use Rattle.sql_reader.proofs.SoundAnswers.{fault_lies}
