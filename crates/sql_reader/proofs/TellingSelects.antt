@@ -201,9 +201,9 @@ module _ (catalog : Catalog) where
   aliases_around [] = refl
   aliases_around (x ∷ items) = ap (λ l. x.alias ∷ l) (aliases_around items)
 
-  aliases_made : (outer before : Reach) (items : List ItemText) → map (λ (i : FromItem). i.alias) (items_made catalog outer before items) ≡ names_of items
-  aliases_made outer before [] = refl
-  aliases_made outer before (x ∷ items) = ap (λ l. x.alias.name ∷ l) (aliases_made outer (chain_to catalog before x x.on) items)
+  aliases_made : (reach before : Reach) (items : List ItemText) → map (λ (i : FromItem). i.alias) (items_made catalog reach before items) ≡ names_of items
+  aliases_made reach before [] = refl
+  aliases_made reach before (x ∷ items) = ap (λ l. x.alias.name ∷ l) (aliases_made reach (chain_to catalog before x x.on) items)
 
   columns_named : (reach : Reach) (columns : List ColumnText) → map (λ (c : SelectColumn). c.name) (map (column_made reach) columns) ≡ map (λ (c : ColumnText). c.name.name) columns
   columns_named reach [] = refl
