@@ -75,7 +75,7 @@ module _ {L : Type 0} where
         (list_from c (more_p r) g l (begun c o r (got g l) u h))
     list_gives ts r l c o e u (Err (Refused x)) h =
         list_at ts r c e ∙ through_fault (λ (all : List (Spanned L)). folded with_one (first_of c) all) (λ (all : List (Spanned L)). c ∷ all) (more_p r) x l
-            (begun c o r (fault x l) u h)
+        (begun c o r (fault x l) u h)
     list_gives ts r l c o e u (Err NoMemory) h = tt
 
     -- x , x { , x }

@@ -32,14 +32,14 @@ module _ (n : ℕ) (ts : List Token) where
   unfolding g.operand
   own_read h =
       ap (λ b. choose b (reads (at_depth n) literals ts) (choose (heads (on class (first own_operand)) ts) (reads (at_depth n) own_operand ts)
-          (reads (at_depth n) (either (g.coalesce PropertyRef Own HeldOwn) (g.parens PropertyRef Own HeldOwn)) ts))) (no_literal h)
+      (reads (at_depth n) (either (g.coalesce PropertyRef Own HeldOwn) (g.parens PropertyRef Own HeldOwn)) ts))) (no_literal h)
       ∙ ap (λ b. choose b (reads (at_depth n) own_operand ts) (reads (at_depth n) (either (g.coalesce PropertyRef Own HeldOwn) (g.parens PropertyRef Own HeldOwn)) ts)) h
 
   pub unnamed_read : heads (on class (first own_operand)) ts ≡ false → reads (at_depth n) operand ts ≡ reads (at_depth n) unnamed_operand ts
   unfolding g.operand unnamed_operand
   unnamed_read h =
       ap (λ b. choose (heads (on class (first literals)) ts) (reads (at_depth n) literals ts)
-          (choose b (reads (at_depth n) own_operand ts) (reads (at_depth n) (either (g.coalesce PropertyRef Own HeldOwn) (g.parens PropertyRef Own HeldOwn)) ts))) h
+      (choose b (reads (at_depth n) own_operand ts) (reads (at_depth n) (either (g.coalesce PropertyRef Own HeldOwn) (g.parens PropertyRef Own HeldOwn)) ts))) h
 
   -- what follows a name
   pub dotted_read : heads (is_mark m.Period) ts ≡ true → reads (at_depth n) after_name ts ≡ reads (at_depth n) (with_tail test_tail dotted) ts

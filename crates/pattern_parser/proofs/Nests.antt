@@ -27,7 +27,7 @@ nest_is zero k ts = at (heads (is_mark m.LeftParenthesis) ts)
   where
     at : (b : Bool) → choose {A = Answer Token (Span × HeldInside k × Span)} b (fault too_deep ts) (fault unexpected ts)
         ≡ bind (bind (choose {A = Answer Token Span} b (fault too_deep ts) (fault unexpected ts))
-            (λ a r. mapped_p (λ b. (a, b)) (seq_p (reads (at_depth 0) (inside k)) (one_p (is_mark m.RightParenthesis) span_of)) r)) (λ d r. got (bracketed d) r)
+        (λ a r. mapped_p (λ b. (a, b)) (seq_p (reads (at_depth 0) (inside k)) (one_p (is_mark m.RightParenthesis) span_of)) r)) (λ d r. got (bracketed d) r)
     at true = refl
     at false = refl
 nest_is (suc n) k ts = ap₂ (λ b i. mapped_p bracketed (seq_p (λ us. cond b (blocked_p (is_mark m.LeftParenthesis) us) (one_p (is_mark m.LeftParenthesis) span_of us))

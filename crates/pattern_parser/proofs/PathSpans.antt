@@ -82,25 +82,29 @@ part_at_in : (at x y z end : ℕ) (first : Span) (d : PartContent × (Span × Op
     IfGiven (Spans of_quantifier) z end d.1.1 → AllIn at end (of_placed of_factor (part_at first d.1.0 d.0 d.1.1))
 part_at_in at x y z end first d h l i j u k =
     let own : In at z (reach first d.1.0) = reaches (wider (omega arith) l h) j in
-    let spans = part_factor_spans (part_of d.0 (reach first d.1.0)) d.1.1 ∙ ap (λ s. s ++ if_given of_quantifier d.1.1) (part_spans d.0 (reach first d.1.0)) in
-    (reach_with_in at z end (reach first d.1.0) d.1.1 u own k,
-    subst (AllIn at end) (sym spans) (all_append at end (reach first d.1.0 ∷ of_part_content d.0) (if_given of_quantifier d.1.1)
-    (wider (omega arith) u own, all_wider (omega (arith, h.from, h.ordered, h.to)) (omega (arith, j.from, j.ordered, j.to, u)) (of_part_content d.0) i)
-    (all_wider (omega (arith, h.from, h.ordered, h.to, l, j.from, j.ordered, j.to)) (omega arith) (if_given of_quantifier d.1.1) (given_all of_quantifier z end d.1.1 k))))
+    let spans = part_factor_spans (part_of d.0 (reach first d.1.0)) d.1.1 ∙ ap (λ s. s ++ if_given of_quantifier d.1.1) (part_spans d.0 (reach first d.1.0)) in (
+      reach_with_in at z end (reach first d.1.0) d.1.1 u own k,
+      subst (AllIn at end) (sym spans) (all_append at end (reach first d.1.0 ∷ of_part_content d.0) (if_given of_quantifier d.1.1)
+          (wider (omega arith) u own, all_wider (omega (arith, h.from, h.ordered, h.to)) (omega (arith, j.from, j.ordered, j.to, u)) (of_part_content d.0) i)
+          (all_wider (omega (arith, h.from, h.ordered, h.to, l, j.from, j.ordered, j.to)) (omega arith) (if_given of_quantifier d.1.1) (given_all of_quantifier z end d.1.1 k))),
+    )
 
 vertex_at_in : (at x y end : ℕ) (first : Span) (d : Content × Span) → In at x first → x ≤ y → AllIn x y (of_content d.0) → In y end d.1 →
     AllIn at end (of_placed of_factor (vertex_at first d.1 d.0))
 vertex_at_in at x y end first d h l i j =
-    let own : In at end (reach first d.1) = reaches (wider (omega arith) l h) j in
-    (own, subst (AllIn at end) (sym (vertex_spans d.0 (reach first d.1)))
-    (own, all_wider (omega (arith, h.from, h.ordered, h.to)) (omega (arith, j.from, j.ordered, j.to)) (of_content d.0) i))
+    let own : In at end (reach first d.1) = reaches (wider (omega arith) l h) j in (
+      own,
+      subst (AllIn at end) (sym (vertex_spans d.0 (reach first d.1)))
+          (own, all_wider (omega (arith, h.from, h.ordered, h.to)) (omega (arith, j.from, j.ordered, j.to)) (of_content d.0) i),
+    )
 
 edge_at_in : (at middle end : ℕ) (e : EdgePattern) (q : Option Quantifier) → at ≤ middle → middle ≤ end → EdgeIn at middle e → IfGiven (Spans of_quantifier) middle end q →
     AllIn at end (of_placed of_factor (edge_at e q))
-edge_at_in at middle end e q l u h i =
-    (reach_with_in at middle end e.filler.span q u h.1 i,
-    subst (AllIn at end) (sym (edge_spans e q)) (all_append at end (of_filler e.filler) (if_given of_quantifier q) (all_wider (omega arith) u (of_filler e.filler) h.0)
-    (all_wider l (omega arith) (if_given of_quantifier q) (given_all of_quantifier middle end q i))))
+edge_at_in at middle end e q l u h i = (
+  reach_with_in at middle end e.filler.span q u h.1 i,
+  subst (AllIn at end) (sym (edge_spans e q)) (all_append at end (of_filler e.filler) (if_given of_quantifier q) (all_wider (omega arith) u (of_filler e.filler) h.0)
+      (all_wider l (omega arith) (if_given of_quantifier q) (given_all of_quantifier middle end q i))),
+)
 
 -- ---- one behind the other
 
@@ -120,15 +124,16 @@ module _ {A : Type 0} (f : A → List Span) where
   nodes_all at end [] h = tt
   nodes_all at end (x ∷ xs) (middle, l, u, first, rest) =
       all_append at end (f x.node) (joined (map f (map node_of xs))) (all_wider (omega arith) u (f x.node) first.1)
-          (all_wider l (omega arith) (joined (map f (map node_of xs))) (nodes_all middle end xs rest))
+      (all_wider l (omega arith) (joined (map f (map node_of xs))) (nodes_all middle end xs rest))
 
 sequence_all : (at end : ℕ) (d : Placed Factor × List (Placed Factor)) → Both (Spans (of_placed of_factor)) (Chain (Spans (of_placed of_factor))) at end d →
     AllIn at end (of_placed of_sequence (placed (sequence_of (d.0.node ∷ map node_of d.1)) (reach_over d.0 d.1)))
-sequence_all at end d h =
-    (over_in of_factor at h.middle end d.0 d.1 h.upper h.first.0 h.second,
-    subst (AllIn at end) (sym (sequence_spans (d.0.node ∷ map node_of d.1))) (all_append at end (of_factor d.0.node) (joined (map of_factor (map node_of d.1)))
-    (all_wider (omega arith) h.upper (of_factor d.0.node) h.first.1) (all_wider h.lower (omega arith) (joined (map of_factor (map node_of d.1)))
-        (nodes_all of_factor h.middle end d.1 h.second))))
+sequence_all at end d h = (
+  over_in of_factor at h.middle end d.0 d.1 h.upper h.first.0 h.second,
+  subst (AllIn at end) (sym (sequence_spans (d.0.node ∷ map node_of d.1))) (all_append at end (of_factor d.0.node) (joined (map of_factor (map node_of d.1)))
+      (all_wider (omega arith) h.upper (of_factor d.0.node) h.first.1) (all_wider h.lower (omega arith) (joined (map of_factor (map node_of d.1)))
+      (nodes_all of_factor h.middle end d.1 h.second))),
+)
 
 joint_all : (at middle end : ℕ) (bar : Span) (last : Option Span) → middle ≤ end → In at middle bar → IfGiven In middle end last → JointIn at end (joint_of bar last)
 joint_all at middle end bar None u h i = (wider (omega arith) u h, tt)
@@ -139,8 +144,14 @@ JoinedIn = Both JointIn (Spans (of_placed of_sequence))
 
 operands_chain : (at end : ℕ) (more : List Joined) → Chain JoinedIn at end more → Chain (Spans (of_placed of_sequence)) at end (map operand_in more)
 operands_chain at end [] h = tt
-operands_chain at end (d ∷ more) (middle, l, u, first, rest) = (middle, l, u, all_wider first.lower (omega arith)
-    (of_placed of_sequence d.1) first.second, operands_chain middle end more rest)
+operands_chain at end (d ∷ more) (middle, l, u, first, rest) = (
+  middle,
+  l,
+  u,
+  all_wider first.lower (omega arith)
+      (of_placed of_sequence d.1) first.second,
+  operands_chain middle end more rest,
+)
 
 operands_all : (at end : ℕ) (more : List Joined) → Chain JoinedIn at end more → AllIn at end (joined (map of_sequence (map sequence_in more)))
 operands_all at end [] h = tt
@@ -150,19 +161,22 @@ operands_all at end (d ∷ more) (middle, l, u, first, rest) =
 
 joints_all : (at end : ℕ) (more : List Joined) → Chain JoinedIn at end more → AllIn at end (map (λ (j : Joint). j.span) (map joint_in more))
 joints_all at end [] h = tt
-joints_all at end (d ∷ more) (middle, l, u, first, rest) =
-    (wider (omega arith) (omega (arith, first.upper, u)) first.first.0, all_wider l (omega arith) (map (λ (j : Joint). j.span) (map joint_in more))
-        (joints_all middle end more rest))
+joints_all at end (d ∷ more) (middle, l, u, first, rest) = (
+  wider (omega arith) (omega (arith, first.upper, u)) first.first.0,
+  all_wider l (omega arith) (map (λ (j : Joint). j.span) (map joint_in more))
+      (joints_all middle end more rest),
+)
 
 union_all : (at end : ℕ) (d : Placed Sequence × List Joined) → Both (Spans (of_placed of_sequence)) (Chain JoinedIn) at end d →
     AllIn at end (of_placed of_union (placed (union_of d.0.node d.1) (reach_over d.0 (map operand_in d.1))))
-union_all at end d h =
-    (over_in of_sequence at h.middle end d.0 (map operand_in d.1) h.upper h.first.0 (operands_chain h.middle end d.1 h.second),
-    subst (AllIn at end) (sym (union_spans (d.0.node ∷ map sequence_in d.1) (map joint_in d.1)))
-    (all_append at end (of_sequence d.0.node ++ joined (map of_sequence (map sequence_in d.1))) (map (λ (j : Joint). j.span) (map joint_in d.1))
-    (all_append at end (of_sequence d.0.node) (joined (map of_sequence (map sequence_in d.1))) (all_wider (omega arith) h.upper (of_sequence d.0.node) h.first.1)
-    (all_wider h.lower (omega arith) (joined (map of_sequence (map sequence_in d.1))) (operands_all h.middle end d.1 h.second)))
-    (all_wider h.lower (omega arith) (map (λ (j : Joint). j.span) (map joint_in d.1)) (joints_all h.middle end d.1 h.second))))
+union_all at end d h = (
+  over_in of_sequence at h.middle end d.0 (map operand_in d.1) h.upper h.first.0 (operands_chain h.middle end d.1 h.second),
+  subst (AllIn at end) (sym (union_spans (d.0.node ∷ map sequence_in d.1) (map joint_in d.1)))
+      (all_append at end (of_sequence d.0.node ++ joined (map of_sequence (map sequence_in d.1))) (map (λ (j : Joint). j.span) (map joint_in d.1))
+      (all_append at end (of_sequence d.0.node) (joined (map of_sequence (map sequence_in d.1))) (all_wider (omega arith) h.upper (of_sequence d.0.node) h.first.1)
+      (all_wider h.lower (omega arith) (joined (map of_sequence (map sequence_in d.1))) (operands_all h.middle end d.1 h.second)))
+      (all_wider h.lower (omega arith) (map (λ (j : Joint). j.span) (map joint_in d.1)) (joints_all h.middle end d.1 h.second))),
+)
 
 -- ---- prefixes
 
@@ -191,9 +205,9 @@ shortest_of_in : (at x y z end : ℕ) (word : Span) (count : ℕ × Span) (mode 
     IfGiven In z end group → PrefixIn at end (shortest_of word count mode group)
 shortest_of_in at x y z end word count mode None l v w u h i j k = prefix_of_in at y end _ (reach word count.1) mode (omega (arith, l, v)) (omega (arith, w, u))
     (reaches h i) (mode_wider mode j) where
-  mode_wider : (o : Option ModeWord) → IfGiven (Spans of_mode) y z o → IfGiven (Spans of_mode) y end o
-  mode_wider None q = tt
-  mode_wider (Some o) q = all_wider (omega arith) u (of_mode o) q
+      mode_wider : (o : Option ModeWord) → IfGiven (Spans of_mode) y z o → IfGiven (Spans of_mode) y end o
+      mode_wider None q = tt
+      mode_wider (Some o) q = all_wider (omega arith) u (of_mode o) q
 shortest_of_in at x y z end word count mode (Some group) l v w u h i j k = record {
   spans = (reaches (wider (omega arith) (omega (arith, v, w)) h) k, all_wider (omega (arith, l, v)) u (if_given of_mode mode) (given_all of_mode y z mode j));
   lower = h.from;
@@ -219,7 +233,7 @@ module _ (n : ℕ) where
   unfolding all_prefix
   all_prefix_in = mapped_gives n (seq_gives n (the_in n m.All) (seq_gives n (the_in n m.Shortest) mode_and_noun_in))
       (λ at end le d h. prefix_of_in at h.second.middle end _ (reach d.0 d.1.0) d.1.1 (omega (arith, h.lower, h.second.lower)) h.second.upper
-          (reaches h.first h.second.first) h.second.second)
+      (reaches h.first h.second.first) h.second.second)
 
   any_prefix_in : Gives n any_prefix PrefixIn
   unfolding any_prefix
@@ -258,10 +272,11 @@ path_all at end d h =
     let o = if_given of_mode (mode_of d.1.0) in
     let b = of_union d.1.1.node in
     let rest : AllIn at end ((s ++ o) ++ b) = all_append at end (s ++ o) b (all_wider h.lower h.second.upper (s ++ o) (prefix_spans h.middle h.second.middle d.1.0 h.second.first))
-        (all_wider (omega (arith, h.lower, h.second.lower)) (omega arith) b h.second.second.1) in
-    (path_span at h.middle h.second.middle end d.0 d.1.0 d.1.1.span h.lower h.second.lower h.second.upper h.first h.second.first h.second.second.0,
-    all_append at end (if_given of_name d.0) (s ++ (o ++ b)) (all_wider (omega arith) h.upper (if_given of_name d.0) (given_all of_name at h.middle d.0 h.first))
-        (subst (AllIn at end) (append_assoc s o b) rest))
+    (all_wider (omega (arith, h.lower, h.second.lower)) (omega arith) b h.second.second.1) in (
+      path_span at h.middle h.second.middle end d.0 d.1.0 d.1.1.span h.lower h.second.lower h.second.upper h.first h.second.first h.second.second.0,
+      all_append at end (if_given of_name d.0) (s ++ (o ++ b)) (all_wider (omega arith) h.upper (if_given of_name d.0) (given_all of_name at h.middle d.0 h.first))
+          (subst (AllIn at end) (append_assoc s o b) rest),
+    )
 
 module _ (n : ℕ) (part_inner : Given (within class inside n (Inside.own Own.part)) (Spans of_part_content))
     (filler_inner : Given (within class inside n (Inside.own Own.filler)) (Spans of_content)) where

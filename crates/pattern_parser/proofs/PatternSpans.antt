@@ -155,8 +155,12 @@ waved_in at middle end first line (Some e) l u f o t h = edge_of_in at end Undir
 -- behind the content of an edge
 pointed_in : (at middle end : ℕ) (c : Content) (last : Span) (arrow : Option Span) → at ≤ middle → middle ≤ end → AllIn at middle (of_content c) → In at middle last →
     IfGiven In middle end arrow → EndIn at end (pointed c last arrow)
-pointed_in at middle end c last None l u h i j = record { content = all_wider (omega arith) u (of_content c) h; lower = omega (arith, i.from, i.ordered); upper = omega
-    (arith, i.to, u) }
+pointed_in at middle end c last None l u h i j = record {
+  content = all_wider (omega arith) u (of_content c) h;
+  lower = omega (arith, i.from, i.ordered);
+  upper = omega
+      (arith, i.to, u);
+}
 pointed_in at middle end c last (Some arrow) l u h i j = record { content = all_wider (omega arith) u (of_content c) h; lower = omega (arith, l, j.from, j.ordered); upper = j.to }
 
 module _ (n : ℕ) (inner : Given (within class inside n (Inside.own Own.filler)) (Spans of_content)) where
@@ -180,16 +184,16 @@ module _ (n : ℕ) (inner : Given (within class inside n (Inside.own Own.filler)
   left_edge_in = either_gives n
       (mapped_gives n (seq_gives n (the_in n m.Minus) (opt_gives n (edge_end_in m.Minus)))
       (λ at end le d h start first i. dashed_in start h.middle end true first d.0 d.1 (omega (arith, h.lower, i.from, i.ordered, i.to)) h.upper i.from
-          (omega (arith, i.ordered, i.to, h.first.from, h.first.ordered)) h.first.to h.second))
+      (omega (arith, i.ordered, i.to, h.first.from, h.first.ordered)) h.first.to h.second))
       (mapped_gives n (seq_gives n (the_in n m.Tilde) (opt_gives n wave_end_in))
       (λ at end le d h start first i. waved_in start h.middle end first d.0 d.1 (omega (arith, h.lower, i.from, i.ordered, i.to)) h.upper i.from
-          (omega (arith, i.ordered, i.to, h.first.from, h.first.ordered)) h.first.to h.second))
+      (omega (arith, i.ordered, i.to, h.first.from, h.first.ordered)) h.first.to h.second))
 
   pub edge_in : Gives n edge EdgeIn
   unfolding edge
   edge_in = either_gives n
       (mapped_gives n (seq_gives n (the_in n m.Minus) (opt_gives n (edge_end_in m.Minus)))
-          (λ at end le d h. dashed_in at h.middle end false d.0 d.0 d.1 h.lower h.upper h.first.from h.first.ordered h.first.to h.second))
+      (λ at end le d h. dashed_in at h.middle end false d.0 d.0 d.1 h.lower h.upper h.first.from h.first.ordered h.first.to h.second))
       (either_gives n (mapped_gives n (seq_gives n (the_in n m.Tilde) (opt_gives n (edge_end_in m.Tilde)))
-          (λ at end le d h. waved_in at h.middle end d.0 d.0 d.1 h.lower h.upper h.first.from h.first.ordered h.first.to h.second))
+      (λ at end le d h. waved_in at h.middle end d.0 d.0 d.1 h.lower h.upper h.first.from h.first.ordered h.first.to h.second))
       (mapped_gives n (seq_gives n (the_in n m.Less) left_edge_in) (λ at end le d h. h.second at d.0 h.first)))

@@ -54,16 +54,20 @@ ItemOfName at end f = (start : ℕ) (word : Named) → In start at word.span →
 item_all : (at middle end : ℕ) (c : Tree) (name : Option Named) → at ≤ middle → middle ≤ end → TreeIn at middle c → IfGiven (Spans of_name) middle end name →
     AllIn at end (of_item (item_of c name))
 item_all at middle end c name l u h i =
-    let t : TreeIn at end c = tree_wider (omega arith) u c h in
-    (t.own, all_append at end (of_condition (condition_of c)) (if_given of_name name ++ []) (condition_all at end c t)
-    (all_append at end (if_given of_name name) [] (all_wider l (omega arith) (if_given of_name name) (given_all of_name middle end name i)) tt))
+    let t : TreeIn at end c = tree_wider (omega arith) u c h in (
+      t.own,
+      all_append at end (of_condition (condition_of c)) (if_given of_name name ++ []) (condition_all at end c t)
+          (all_append at end (if_given of_name name) [] (all_wider l (omega arith) (if_given of_name name) (given_all of_name middle end name i)) tt),
+    )
 
 gather_all : (at end : ℕ) (kind : GatherKind) (c : Counted) (closing : Span) (own word : Named) → In at end (reach word.span closing) → AllIn at end (of_counted c) →
     In at end own.span → AllIn at end (of_item (gather_of kind c closing own word))
 gather_all at end kind c closing own word h i j =
-    let one_in = literal_in at end (reach word.span closing) (Number (pos 1)) h in
-    (h, all_append at end ((reach word.span closing ∷ []) ++ leaf_spans (v.Lit (Number (pos 1)))) (own.span ∷ of_counted c)
-        (all_append at end (reach word.span closing ∷ []) (leaf_spans (v.Lit (Number (pos 1)))) (h, tt) one_in.leaves) (j, i))
+    let one_in = literal_in at end (reach word.span closing) (Number (pos 1)) h in (
+      h,
+      all_append at end ((reach word.span closing ∷ []) ++ leaf_spans (v.Lit (Number (pos 1)))) (own.span ∷ of_counted c)
+          (all_append at end (reach word.span closing ∷ []) (leaf_spans (v.Lit (Number (pos 1)))) (h, tt) one_in.leaves) (j, i),
+    )
 
 -- what is gathered stands in parentheses behind its word
 gathered_all : (at end : ℕ) (kind : Named → GatherKind) (d : (Span × Counted × Span) × Named) → Both (Bracketed (Spans of_counted)) (Spans of_name) at end d →
@@ -78,7 +82,7 @@ gathered_all at end kind d h start word i =
       to = omega (arith, b.closing.to, h.upper);
     } in
     gather_all start end (kind word) d.0.1 d.0.2 d.1 word own (all_wider l u (of_counted d.0.1) b.held)
-        (wider (omega (arith, l, b.between, b.closing.from, b.closing.ordered, b.closing.to)) (omega arith) h.second.0)
+    (wider (omega (arith, l, b.between, b.closing.from, b.closing.ordered, b.closing.to)) (omega arith) h.second.0)
 
 list_in : (n : ℕ) {V : Type 0} {x : Production V} (f : V → List Span) → Gives n x (Spans f) → Gives n (list x) (Spans (flat_map f))
 list_in n f g = mapped_gives n (seq_gives n g (many_gives n (after_in n f g)))
@@ -94,9 +98,9 @@ content_all : (at end : ℕ) (d : Option Named × (Option LabelExpr × Option Co
 content_all at end d h =
     let i = h.second in
     all_append at end (if_given of_name d.0) (if_given of_label d.1.0 ++ if_given of_condition d.1.1)
-        (all_wider (omega arith) h.upper (if_given of_name d.0) (given_all of_name at h.middle d.0 h.first))
+    (all_wider (omega arith) h.upper (if_given of_name d.0) (given_all of_name at h.middle d.0 h.first))
     (all_append at end (if_given of_label d.1.0) (if_given of_condition d.1.1) (all_wider h.lower i.upper (if_given of_label d.1.0)
-        (given_all of_label h.middle i.middle d.1.0 i.first))
+    (given_all of_label h.middle i.middle d.1.0 i.first))
     (all_wider (omega (arith, h.lower, i.lower)) (omega arith) (if_given of_condition d.1.1) (given_all of_condition i.middle end d.1.1 i.second)))
 
 part_all : (at end : ℕ) (d : Option ModeWord × (Placed Union × Option Condition)) → Both (IfGiven (Spans of_mode))
@@ -105,7 +109,7 @@ part_all : (at end : ℕ) (d : Option ModeWord × (Placed Union × Option Condit
 part_all at end d h =
     let i = h.second in
     all_append at end (if_given of_mode d.0) (of_union d.1.0.node ++ if_given of_condition d.1.1)
-        (all_wider (omega arith) h.upper (if_given of_mode d.0) (given_all of_mode at h.middle d.0 h.first))
+    (all_wider (omega arith) h.upper (if_given of_mode d.0) (given_all of_mode at h.middle d.0 h.first))
     (all_append at end (of_union d.1.0.node) (if_given of_condition d.1.1) (all_wider h.lower i.upper (of_union d.1.0.node) i.first.1)
     (all_wider (omega (arith, h.lower, i.lower)) (omega arith) (if_given of_condition d.1.1) (given_all of_condition i.middle end d.1.1 i.second)))
 
@@ -118,13 +122,17 @@ table_all at end d h =
     let k = j.second in
     let paths = d.1.1.0 in
     let c = d.1.1.1.0 in
-    let items = d.1.1.1.1 in
-    (wider (omega arith) h.upper h.first.0, (wider h.lower i.upper i.first,
-    all_append at end (flat_map of_path paths) (if_given of_condition c ++ flat_map of_item items)
-        (all_wider (omega (arith, h.lower, i.lower)) j.upper (flat_map of_path paths) j.first)
-    (all_append at end (if_given of_condition c) (flat_map of_item items) (all_wider (omega (arith, h.lower, i.lower, j.lower)) k.upper (if_given of_condition c)
-        (given_all of_condition j.middle k.middle c k.first))
-    (all_wider (omega (arith, h.lower, i.lower, j.lower, k.lower)) (omega arith) (flat_map of_item items) k.second))))
+    let items = d.1.1.1.1 in (
+      wider (omega arith) h.upper h.first.0,
+      (
+        wider h.lower i.upper i.first,
+        all_append at end (flat_map of_path paths) (if_given of_condition c ++ flat_map of_item items)
+            (all_wider (omega (arith, h.lower, i.lower)) j.upper (flat_map of_path paths) j.first)
+            (all_append at end (if_given of_condition c) (flat_map of_item items) (all_wider (omega (arith, h.lower, i.lower, j.lower)) k.upper (if_given of_condition c)
+            (given_all of_condition j.middle k.middle c k.first))
+            (all_wider (omega (arith, h.lower, i.lower, j.lower, k.lower)) (omega arith) (flat_map of_item items) k.second)),
+      ),
+    )
 
 module _ (n : ℕ) (inner : (k : Inside Own) → Given (within class inside n k) (HeldIn k)) where
   where_in : Gives n where_part (Spans of_condition)
@@ -229,7 +237,7 @@ module _ (n : ℕ) (inner : (k : Inside Own) → Given (within class inside n k)
   unfolding query
   query_in = after_in n of_tree (after_in n of_tree (after_in n of_tree (after_in n of_tree
       (mapped_gives n (seq_gives n {P = Spans of_tree} (mapped_gives n (nest_gives n (inner (Inside.own Own.table))) (λ at end le d h. inside_all of_tree at end d h))
-          (any_gives n)) (λ at end le d h. left_all of_tree (λ a b i. i) h)))))
+      (any_gives n)) (λ at end le d h. left_all of_tree (λ a b i. i) h)))))
 
 -- what stands between brackets, however deep
 inner_in : (n : ℕ) (k : Inside Own) → Given (within class inside n k) (HeldIn k)

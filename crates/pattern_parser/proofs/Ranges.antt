@@ -124,8 +124,7 @@ module _ (n : ℕ) where
     by : Given (text_of n (many r)) (Chain P)
     by [] at end i = tt
     by (d ∷ ds) at end i =
-        let c = cut at end ((text_of n r).tokens d) (many_tokens ((text_of n r).tokens) ds) i in
-        (
+        let c = cut at end ((text_of n r).tokens d) (many_tokens ((text_of n r).tokens) ds) i in (
           c.middle,
           not_before at c.middle ((text_of n r).tokens d) c.left,
           not_before c.middle end (many_tokens ((text_of n r).tokens) ds) c.right,
@@ -154,7 +153,7 @@ module _ (n : ℕ) where
       {R : Holds B} {W : Holds V} (P : Holds (HeldInside k)) (Q : Holds (HeldInside j)) →
       Given (within class inside n k) P → Gives n r R → Given (within class inside n j) Q →
       ((at x y z end : ℕ) (first : Span) (d : HeldInside k × (Span × B)) → In at x first → x ≤ y → P x y d.0 → In y z d.1.0 → z ≤ end → R z end d.1.1 →
-          W at end (one_way first d)) →
+      W at end (one_way first d)) →
       ((at x y end : ℕ) (first : Span) (d : HeldInside j × Span) → In at x first → x ≤ y → Q x y d.0 → In y end d.1 → W at end (other_way first d)) →
       Gives n (fork span_of o c f k r one_way j other_way) W
   fork_gives {o} {c} {f} {k} {j} {B} {V} {r} {one_way} {other_way} {R} {W} P Q g h i one_holds other_holds = record { holds = by } where

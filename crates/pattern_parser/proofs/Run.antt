@@ -26,7 +26,7 @@ folded-factors : (factors : List Factor) (from to : ℕ) (x : Placed Factor) (mo
 folded-factors factors from to x [] h = same_run (factors ++ []) factors from x.span.to to (append-nil factors) (sym h)
 folded-factors factors from to x (y ∷ more) h =
     same_run (factors ++ y.node ∷ map node_of more) ((factors ++ y.node ∷ []) ++ map node_of more) from (last_place y more).to (last_place y more).to
-        (sym (append_assoc factors (y.node ∷ []) (map node_of more))) refl
+    (sym (append_assoc factors (y.node ∷ []) (map node_of more))) refl
     ∙ folded-factors (factors ++ y.node ∷ []) from y.span.to y more refl
 
 abbrev pub first_run : Placed Factor → Run
@@ -53,9 +53,9 @@ folded-operands : (ss : List Sequence) (js : List Joint) (from to : ℕ) (x : Pl
 folded-operands ss js from to x [] h = same_operands (ss ++ []) ss (js ++ []) js from x.span.to to (append-nil ss) (append-nil js) (sym h)
 folded-operands ss js from to x (y ∷ more) h =
     same_operands (ss ++ y.1.node ∷ map sequence_in more) ((ss ++ y.1.node ∷ []) ++ map sequence_in more) (js ++ y.0 ∷ map joint_in more)
-        ((js ++ y.0 ∷ []) ++ map joint_in more) from
+    ((js ++ y.0 ∷ []) ++ map joint_in more) from
     (last_place y.1 (map operand_in more)).to (last_place y.1 (map operand_in more)).to (sym (append_assoc ss (y.1.node ∷ []) (map sequence_in more)))
-        (sym (append_assoc js (y.0 ∷ []) (map joint_in more))) refl
+    (sym (append_assoc js (y.0 ∷ []) (map joint_in more))) refl
     ∙ folded-operands (ss ++ y.1.node ∷ []) (js ++ y.0 ∷ []) from y.1.span.to y.1 more refl
 
 abbrev pub first_operand : Placed Sequence → Operands

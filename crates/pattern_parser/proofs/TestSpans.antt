@@ -56,17 +56,20 @@ module _ (n : ℕ) where
   unfolding g.literals
   literals_in = either_gives n (one_gives n (λ t at end h. literal_in at end t.span _ h))
       (either_gives n (mapped_gives n (seq_gives n (the_in n m.Minus) (one_gives n {P = TokenIn} (λ t at end h. h)))
-          (λ at end le d h. literal_in at end (reach d.0 d.1.span) _ (reaches h.first h.second)))
+      (λ at end le d h. literal_in at end (reach d.0 d.1.span) _ (reaches h.first h.second)))
       (either_gives n (one_gives n (λ t at end h. literal_in at end t.span _ h))
       (either_gives n (mapped_gives n (the_in n m.True) (λ at end le s h. literal_in at end s _ h))
-          (mapped_gives n (the_in n m.False) (λ at end le s h. literal_in at end s _ h)))))
+      (mapped_gives n (the_in n m.False) (λ at end le s h. literal_in at end s _ h)))))
 
   dotted_in : Gives n dotted NamesTree
   unfolding g.dotted
   dotted_in = mapped_gives n (seq_gives n (the_in n m.Period) (name_in n)) (λ at end le d h start name i.
       let p : In at end d.1.span = wider h.lower (omega arith) h.second.0 in
-      leaf_in start end (reach name.span d.1.span) (leaf_of name d.1) (reaches i p) (wider
-          (omega arith) le i, (wider (omega (arith, i.from, i.ordered, i.to)) (omega arith) p, tt)))
+      leaf_in start end (reach name.span d.1.span) (leaf_of name d.1) (reaches i p) (
+        wider
+            (omega arith) le i,
+        (wider (omega (arith, i.from, i.ordered, i.to)) (omega arith) p, tt),
+      ))
 
   date_text_in : Gives n date_text NamesTree
   unfolding g.date_text
@@ -93,7 +96,7 @@ module _ (n : ℕ) where
   unfolding g.truth_test
   truth_test_in = mapped_gives n (seq_gives n (any_gives n) (seq_gives n (any_gives n) truth_word_in))
       (λ at end le d h start c i. tested_in start h.second.middle end d.1.1.0 d.1.0 d.1.1.1 c
-          (omega (arith, h.lower, h.second.lower, i.own.from, i.own.ordered, i.own.to)) h.second.upper
+      (omega (arith, h.lower, h.second.lower, i.own.from, i.own.ordered, i.own.to)) h.second.upper
       (tree_wider (omega arith) (omega (arith, h.lower, h.second.lower)) c i) h.second.second)
 
 -- ---- predicates on elements
@@ -116,7 +119,7 @@ source_in at end start w edge vertex b le h i j =
     let l : start ≤ at = omega (arith, j.from, j.ordered, j.to) in
     let own = reaches j i in
     not_when_in start end b (reach vertex.span edge.span) _ own (predicate_in start end (reach vertex.span edge.span) vertex w (SourceOf vertex edge) own
-        (wider (omega arith) le j) (wider l (omega arith) h)
+    (wider (omega arith) le j) (wider l (omega arith) h)
     (wider (omega arith) le j, (wider l (omega arith) i, tt)))
 
 destination_in : (at end start : ℕ) (w edge vertex : Named) (b : Bool) → at ≤ end → In at end w.span → In at end edge.span → In start at vertex.span →
@@ -125,7 +128,7 @@ destination_in at end start w edge vertex b le h i j =
     let l : start ≤ at = omega (arith, j.from, j.ordered, j.to) in
     let own = reaches j i in
     not_when_in start end b (reach vertex.span edge.span) _ own (predicate_in start end (reach vertex.span edge.span) vertex w (DestinationOf vertex edge) own
-        (wider (omega arith) le j) (wider l (omega arith) h)
+    (wider (omega arith) le j) (wider l (omega arith) h)
     (wider (omega arith) le j, (wider l (omega arith) i, tt)))
 
 names_all : (at end : ℕ) (names : List Named) → Chain (Spans of_name) at end names → AllIn at end (of_names names)
@@ -150,13 +153,15 @@ grouped_in at end start d w h i =
     let l : start ≤ h.left = omega (arith, i.from, i.ordered, i.to, h.opening.from, h.opening.ordered, h.opening.to) in
     let u : h.right ≤ end = omega (arith, h.closing.from, h.closing.ordered, h.closing.to) in
     let own : In start end
-        (reach w.span d.2) = record
-        { from = i.from; ordered = omega (arith, i.ordered, i.to, h.opening.from, h.opening.ordered, h.opening.to, h.between, h.closing.from, h.closing.ordered);
-        to = h.closing.to } in
+    (reach w.span d.2) = record {
+      from = i.from;
+      ordered = omega (arith, i.ordered, i.to, h.opening.from, h.opening.ordered, h.opening.to, h.between, h.closing.from, h.closing.ordered);
+      to = h.closing.to;
+    } in
     let names = all_wider l u (of_names d.1) h.held in
     let own_word : In start end w.span = wider (omega arith) (omega (arith, h.opening.from, h.opening.ordered, h.opening.to, h.between, u)) i in
     predicate_in start end (reach w.span d.2) (first_of w d.1) w (group_test w.name d.1) own (first_of_in start end w d.1 own_word names) own_word
-        (group_test_in start end w.name d.1 names)
+    (group_test_in start end w.name d.1 names)
 
 -- what may follow in a test, behind what was made of a name
 with_tail_in : (n : ℕ) {tail : Production (Tail PropertyRef)} {x : Production OfName} → Gives n tail TailIn → Gives n x NamesTree → Gives n (with_tail tail x) NamesTree
@@ -199,7 +204,7 @@ module _ (n : ℕ) (inner : (k : Inside Own) → Given (within class inside n k)
   unfolding g.comparing
   comparing_in = mapped_gives n (seq_gives n (any_gives n) operand_in)
       (λ at end le d h start c i. compared_in start h.middle end d.0 c d.1 (omega (arith, h.lower, i.own.from, i.own.ordered, i.own.to)) h.upper
-          (tree_wider (omega arith) h.lower c i) h.second)
+      (tree_wider (omega arith) h.lower c i) h.second)
 
   between_in : (at end : ℕ) (d : Span × (Tree × (Span × Tree))) → Both In (Both TreeIn (Both In TreeIn)) at end d → SignedTail at end (λ negated. ranged negated d.1.0 d.1.1.1)
   between_in at end d h negated start c i = ranged_in start h.middle h.second.middle end negated c d.1.0 d.1.1.1
@@ -211,7 +216,7 @@ module _ (n : ℕ) (inner : (k : Inside Own) → Given (within class inside n k)
       let e = h.second in
       let l : at ≤ e.left = omega (arith, h.lower, e.opening.from, e.opening.ordered, e.opening.to) in
       listed_in start at e.left e.right end negated c d.1.1 d.1.2 (omega (arith, i.own.from, i.own.ordered, i.own.to)) l e.between
-          (omega (arith, e.closing.from, e.closing.ordered, e.closing.to)) i e.held e.closing
+      (omega (arith, e.closing.from, e.closing.ordered, e.closing.to)) i e.held e.closing
 
   including_in : Gives n (g.including PropertyRef Own HeldOwn own_operand) SignedTail
   unfolding g.including
@@ -248,9 +253,9 @@ module _ (n : ℕ) (inner : (k : Inside Own) → Given (within class inside n k)
   unfolding end_of_edge
   end_of_edge_in = either_gives n
       (mapped_gives n (seq_gives n (named_in n) (after_in n of_name (name_in n))) (λ at end le d h b start v i. source_in at end start d.0 d.1 v b le
-          (wider (omega arith) h.upper h.first.0) (wider h.lower (omega arith) h.second.0) i))
+      (wider (omega arith) h.upper h.first.0) (wider h.lower (omega arith) h.second.0) i))
       (mapped_gives n (seq_gives n (named_in n) (after_in n of_name (name_in n))) (λ at end le d h b start v i. destination_in at end start d.0 d.1 v b le
-          (wider (omega arith) h.upper h.first.0) (wider h.lower (omega arith) h.second.0) i))
+      (wider (omega arith) h.upper h.first.0) (wider h.lower (omega arith) h.second.0) i))
 
   relation_in : Gives n relation NamesTree
   unfolding relation

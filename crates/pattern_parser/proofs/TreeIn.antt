@@ -130,10 +130,13 @@ rest_in at end (s ∷ spans) h = h.1
 pub enclosed_in : (at end : ℕ) (d : Span × Tree × Span) → Bracketed TreeIn at end d → TreeIn at end (enclosed d.0 d.2 d.1)
 enclosed_in at end d h =
     let c : TreeIn at end d.1 = tree_wider (omega (arith, h.opening.from, h.opening.ordered, h.opening.to))
-        (omega (arith, h.closing.from, h.closing.ordered, h.closing.to)) d.1 h.held in
-    let own : In at end (reach d.0 d.2) = record
-        { from = h.opening.from; ordered = omega
-        (arith, h.opening.ordered, h.opening.to, h.held.own.from, h.held.own.ordered, h.held.own.to, h.closing.from, h.closing.ordered); to = h.closing.to } in
+    (omega (arith, h.closing.from, h.closing.ordered, h.closing.to)) d.1 h.held in
+    let own : In at end (reach d.0 d.2) = record {
+      from = h.opening.from;
+      ordered = omega
+          (arith, h.opening.ordered, h.opening.to, h.held.own.from, h.held.own.ordered, h.held.own.to, h.closing.from, h.closing.ordered);
+      to = h.closing.to;
+    } in
     record { own = own; nodes = (own, rest_in at end d.1.spans c.nodes); leaves = c.leaves }
 
 -- what makes a test of an operand that stands before
@@ -161,13 +164,16 @@ ranged_in at x y end negated a b c l w u h i j =
     let own : In at end (reach (span_of a) (span_of c)) = reaches (wider (omega arith) w h.own) j.own in
     record {
       own = own;
-      nodes = (own, all_append at end a.spans (b.spans ++ (c.spans ++ [])) (all_wider (omega arith) (omega (arith, w, u)) a.spans h.nodes)
-          (all_append at end b.spans (c.spans ++ []) (all_wider l u b.spans i.nodes) (all_wider (omega (arith, l, w)) (omega arith) (c.spans ++ []) (over_one y end c j))));
+      nodes = (
+        own,
+        all_append at end a.spans (b.spans ++ (c.spans ++ [])) (all_wider (omega arith) (omega (arith, w, u)) a.spans h.nodes)
+            (all_append at end b.spans (c.spans ++ []) (all_wider l u b.spans i.nodes) (all_wider (omega (arith, l, w)) (omega arith) (c.spans ++ []) (over_one y end c j))),
+      );
       leaves = leaves_at at end (v.Between a.tree b.tree c.tree negated) (leaves_in a.tree ++ (leaves_in b.tree ++ leaves_in c.tree))
           (at_layer leaves_step (Expr-F.Between a.tree b.tree c.tree negated) _ (v.rolls-Between a.tree b.tree c.tree negated))
           (two at end (leaves_in a.tree) (leaves_in b.tree ++ leaves_in c.tree) (all_wider (omega arith) (omega (arith, w, u)) (leaf_spans a.tree) h.leaves)
           (two at end (leaves_in b.tree) (leaves_in c.tree) (all_wider l u (leaf_spans b.tree) i.leaves)
-              (all_wider (omega (arith, l, w)) (omega arith) (leaf_spans c.tree) j.leaves)));
+          (all_wider (omega (arith, l, w)) (omega arith) (leaf_spans c.tree) j.leaves)));
     }
 
 pub listed_in : (at middle x y end : ℕ) (negated : Bool) (a : Tree) (bs : List Tree) (closing : Span) → at ≤ middle → middle ≤ x → x ≤ y → y ≤ end → TreeIn at middle a →
@@ -202,7 +208,7 @@ coalesced_in at middle end word d l u h i =
     let apart : middle ≤ i.right = omega (arith, i.opening.from, i.opening.ordered, i.opening.to, i.between) in
     let own : In at end (reach word d.2) = record { from = h.from; ordered = omega (arith, h.ordered, h.to, apart, i.closing.from, i.closing.ordered); to = i.closing.to } in
     let cs : ListIn at end d.1 = list_wider (omega (arith, l, i.opening.from, i.opening.ordered, i.opening.to))
-        (omega (arith, i.closing.from, i.closing.ordered, i.closing.to)) d.1 i.held in
+    (omega (arith, i.closing.from, i.closing.ordered, i.closing.to)) d.1 i.held in
     record {
       own = own;
       nodes = (own, cs.nodes);

@@ -44,7 +44,7 @@ module _ (n : ℕ) (ts : List Token) (count : heads (is_mark m.Count) ts ≡ fal
   same_test =
       ap₂ (λ b z. choose (heads (on class (first unnamed_operand)) ts) (reads (at_depth n) unnamed_test ts)
       (choose b (bind (bind z (λ a r. mapped_p (λ f. let p : Named × OfName = (a, f) in p) (reads (at_depth n) after_name) r)) (λ d r. got (put_name d) r))
-          (reads (at_depth n) word_test ts)))
+      (reads (at_depth n) word_test ts)))
       (same_head ts count leaf) (same_one ts count leaf)
 
   pub first_is_member : reads (at_depth n) first_member ts ≡ reads (at_depth n) negation ts

@@ -78,7 +78,7 @@ first_same : (ts : List Token) (end : ℕ) (a b : Refusal) → IsFirstFault ts e
 first_same ts end a b f g =
     let q = one_fault (on class opens) (on class closes) query_text 64 ts f.cause g.cause (drop f.place ts) (drop g.place ts) f.first g.first in
     let place : span_at end (slice_get ts f.place) ≡ span_at end (slice_get ts g.place) = at_place end f.place ts ∙ ap (λ l. span_at end (slice_get l 0)) q.1
-        ∙ sym (at_place end g.place ts) in
+    ∙ sym (at_place end g.place ts) in
     same_refusal a b (f.role ∙ sym g.role) (f.span ∙ place ∙ sym g.span) (f.code ∙ ap code_for q.0 ∙ sym g.code) (f.detail ∙ sym g.detail)
 
 pub one_outcome : (ts : List Token) (end : ℕ) (a b : Result QueryTree Refusal) → IsOutcome ts end a → IsOutcome ts end b → a ≡ b

@@ -19,7 +19,11 @@ use token_reading::{TOO_DEEP, Tokens, UNEXPECTED, expect, name, next_is, next_is
 
 /// A WHERE clause, if there is one.
 #[tactic(auto, unfolding(crate::specs::Queries::where_part))]
-pub(crate) fn where_part(alloc: Global, tokens: &mut Tokens<'_>, depth: u8) -> Result<Option<Condition>, Halt>
+pub(crate) fn where_part(
+    alloc: Global,
+    tokens: &mut Tokens<'_>,
+    depth: u8,
+) -> Result<Option<Condition>, Halt>
     ensures { Parses (reads (at_depth depth) (opt where_part) tokens.old) result tokens.new }
 {
     if !next_is(tokens, Mark::Where) {
@@ -186,7 +190,12 @@ fn waved(first: Span, line: Span, end: Option<EdgeEnd>) -> EdgePattern
 }
 
 #[tactic(auto, unfolding(crate::specs::Patterns::edge_end))]
-fn edge_end_if(alloc: Global, tokens: &mut Tokens<'_>, depth: u8, line: Mark) -> Result<Option<EdgeEnd>, Halt>
+fn edge_end_if(
+    alloc: Global,
+    tokens: &mut Tokens<'_>,
+    depth: u8,
+    line: Mark,
+) -> Result<Option<EdgeEnd>, Halt>
     ensures { Parses (reads (at_depth depth) (opt (edge_end line)) tokens.old) result tokens.new }
 {
     if next_is(tokens, Mark::Greater) || next_is(tokens, Mark::LeftBracket) {
@@ -208,7 +217,12 @@ fn wave_end_if(alloc: Global, tokens: &mut Tokens<'_>, depth: u8) -> Result<Opti
 }
 
 #[tactic(auto, unfolding(crate::specs::Patterns::left_edge))]
-fn left_edge(alloc: Global, tokens: &mut Tokens<'_>, depth: u8, first: Span) -> Result<EdgePattern, Halt>
+fn left_edge(
+    alloc: Global,
+    tokens: &mut Tokens<'_>,
+    depth: u8,
+    first: Span,
+) -> Result<EdgePattern, Halt>
     ensures { Parses (mapped_p (λ f. f first) (reads (at_depth depth) left_edge) tokens.old) result tokens.new }
 {
     if next_is(tokens, Mark::Minus) {

@@ -120,7 +120,11 @@ fn more_ors(
 /// A label expression.
 #[cycle(labels)]
 #[tactic(auto, unfolding(crate::specs::Patterns::label_union))]
-pub(crate) fn label_union(alloc: Global, tokens: &mut Tokens<'_>, depth: u8) -> Result<LabelExpr, Halt>
+pub(crate) fn label_union(
+    alloc: Global,
+    tokens: &mut Tokens<'_>,
+    depth: u8,
+) -> Result<LabelExpr, Halt>
     ensures { Parses (reads (at_depth depth) label_union tokens.old) result tokens.new }
 {
     let first = label_and(alloc, tokens, depth)?;

@@ -87,7 +87,11 @@ fn path(alloc: Global, tokens: &mut Tokens<'_>, depth: u8) -> Result<PathTree, H
 }
 
 /// Paths, with commas between them.
-pub(crate) fn paths(alloc: Global, tokens: &mut Tokens<'_>, depth: u8) -> Result<List<PathTree>, Halt>
+pub(crate) fn paths(
+    alloc: Global,
+    tokens: &mut Tokens<'_>,
+    depth: u8,
+) -> Result<List<PathTree>, Halt>
     ensures { Parses (reads_list (reads (at_depth depth) path) tokens.old) result tokens.new }
 {
     let first = path(alloc, tokens, depth)?;

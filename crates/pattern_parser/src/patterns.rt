@@ -52,7 +52,13 @@ fn reach_with(own: Span, quantifier: &Option<Quantifier>) -> Span
     }
 }
 
-fn part_at(alloc: Global, first: Span, last: Span, content: PartContent, quantifier: Option<Quantifier>) -> Result<Placed<Factor>, NoMemory>
+fn part_at(
+    alloc: Global,
+    first: Span,
+    last: Span,
+    content: PartContent,
+    quantifier: Option<Quantifier>,
+) -> Result<Placed<Factor>, NoMemory>
     ensures { IfOk result (λ part. part ≡ part_at first last content quantifier) }
 {
     let span = reach(first, last);
@@ -149,7 +155,12 @@ fn part(alloc: Global, tokens: &mut Tokens<'_>, depth: u8) -> Result<PartContent
 }
 
 #[cycle(patterns)]
-fn branch(alloc: Global, tokens: &mut Tokens<'_>, depth: u8, first: Span) -> Result<Placed<Factor>, Halt>
+fn branch(
+    alloc: Global,
+    tokens: &mut Tokens<'_>,
+    depth: u8,
+    first: Span,
+) -> Result<Placed<Factor>, Halt>
     requires { 0 < depth }
     ensures { Parses (mapped_p (λ f. f first) (reads_branch depth) tokens.old) result tokens.new }
 {
@@ -186,7 +197,12 @@ fn factor(alloc: Global, tokens: &mut Tokens<'_>, depth: u8) -> Result<Placed<Fa
 }
 
 #[cycle(patterns)]
-fn more_factors(alloc: Global, tokens: &mut Tokens<'_>, depth: u8, mut run: Run) -> Result<Run, Halt>
+fn more_factors(
+    alloc: Global,
+    tokens: &mut Tokens<'_>,
+    depth: u8,
+    mut run: Run,
+) -> Result<Run, Halt>
     ensures { Parses (gathered (on class starts_factor) (reads (at_depth depth) factor) with_factor (length tokens.old) run tokens.old) result tokens.new }
 {
     for turn in 0..tokens.count() {
@@ -219,7 +235,12 @@ fn sequence(alloc: Global, tokens: &mut Tokens<'_>, depth: u8) -> Result<Placed<
 }
 
 #[cycle(patterns)]
-fn more_operands(alloc: Global, tokens: &mut Tokens<'_>, depth: u8, mut all: Operands) -> Result<Operands, Halt>
+fn more_operands(
+    alloc: Global,
+    tokens: &mut Tokens<'_>,
+    depth: u8,
+    mut all: Operands,
+) -> Result<Operands, Halt>
     ensures { Parses (gathered (is_mark m.VerticalBar) (reads (at_depth depth) joined) with_operand (length tokens.old) all tokens.old) result tokens.new }
 {
     for turn in 0..tokens.count() {
@@ -238,7 +259,11 @@ fn more_operands(alloc: Global, tokens: &mut Tokens<'_>, depth: u8, mut all: Ope
 /// Sequences with `|` or `|+|` between them, and where they stand.
 #[cycle(patterns)]
 #[tactic(auto, unfolding(crate::specs::Patterns::union))]
-pub(crate) fn union(alloc: Global, tokens: &mut Tokens<'_>, depth: u8) -> Result<Placed<Union>, Halt>
+pub(crate) fn union(
+    alloc: Global,
+    tokens: &mut Tokens<'_>,
+    depth: u8,
+) -> Result<Placed<Union>, Halt>
     ensures { Parses (reads (at_depth depth) union tokens.old) result tokens.new }
 {
     let first = sequence(alloc, tokens, depth)?;

@@ -208,11 +208,7 @@ fn show_labels(labels: &[LabelExpr], alloc: Global, out: &mut String) -> Result<
     Ok(())
 }
 
-fn show_where(
-    alloc: Global,
-    out: &mut String,
-    condition: &Option<Condition>,
-) -> Result<(), Fail> {
+fn show_where(alloc: Global, out: &mut String, condition: &Option<Condition>) -> Result<(), Fail> {
     let Some(condition) = condition else {
         return Ok(());
     };

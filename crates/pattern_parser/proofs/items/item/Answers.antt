@@ -20,5 +20,5 @@ returns c =
     let count = sym c.next_is.ensures ∙ c.if-next_is.false in
     let leaf = sym c.next_is_leaf_word.ensures ∙ c.if-next_is_leaf_word.false in
     let e = seq_put (reads (at_depth c.args.depth) first_member) (reads (at_depth c.args.depth) item_rest) c.args.tokens.now c.negation.new.tokens c.in_ok-first.first
-        (first_is_member c.args.depth c.args.tokens.now count leaf ∙ c.in_ok-first.ensures) in
+    (first_is_member c.args.depth c.args.tokens.now count leaf ∙ c.in_ok-first.ensures) in
     subst (λ a. Parses a c.item_rest.result c.item_rest.new.tokens) (sym (by_member c.args.depth c.args.tokens.now count leaf ∙ e)) c.item_rest.ensures

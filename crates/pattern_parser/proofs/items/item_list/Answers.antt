@@ -9,5 +9,5 @@ pub returns : goal.returns
 returns c =
     let all = c.in_ok-push.ensures.ok ∙ ap (λ l. l ++ c.in_ok-first.first ∷ []) c.new-all.ensures in
     let e = list_start (reads (at_depth c.args.depth) item) c.args.tokens.now c.item.new.tokens c.in_ok-first.first (length c.item.new.tokens) c.push.new.self
-        c.in_ok-first.ensures refl all in
+    c.in_ok-first.ensures refl all in
     subst (λ a. Parses a c.more_items.result c.more_items.new.tokens) e c.more_items.ensures

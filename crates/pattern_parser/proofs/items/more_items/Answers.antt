@@ -13,7 +13,7 @@ pub returns-in_err-item : goal.returns-in_err-item
 returns-in_err-item c =
     let n = c.count-turn-end.result - c.loop-turn.turn in
     let e = more-step (is_mark m.Comma) span_of (reads (at_depth c.args.depth) item) n (c.count-turn-end.result - (c.loop-turn.turn + 1)) c.loop-turn.all
-        c.loop-turn.tokens c.skip.new.self (omega arith) (sym c.next_is.ensures ∙ c.if-not-next_is.false) c.skip.ensures in
+    c.loop-turn.tokens c.skip.new.self (omega arith) (sym c.next_is.ensures ∙ c.if-not-next_is.false) c.skip.ensures in
     let f = sym e ∙ c.loop-turn.invariant in
     first_of (search rules, grind (arith, common_steps))
 
@@ -21,7 +21,7 @@ pub loop-turn-preserved : goal.loop-turn-preserved
 loop-turn-preserved c =
     let n = c.count-turn-end.result - c.loop-turn.turn in
     let e = more-step (is_mark m.Comma) span_of (reads (at_depth c.args.depth) item) n (c.count-turn-end.result - (c.loop-turn.turn + 1)) c.loop-turn.all
-        c.loop-turn.tokens c.skip.new.self (omega arith) (sym c.next_is.ensures ∙ c.if-not-next_is.false) c.skip.ensures in
+    c.loop-turn.tokens c.skip.new.self (omega arith) (sym c.next_is.ensures ∙ c.if-not-next_is.false) c.skip.ensures in
     let f = sym e ∙ c.loop-turn.invariant in
     first_of (search rules, grind (arith, common_steps))
 

@@ -41,8 +41,8 @@ pub more_ands-returns-in_err-item : goal.more_ands-returns-in_err-item
 more_ands-returns-in_err-item t c =
     let n = c.count-turn-end.result - c.loop-turn.turn in
     let e = more-step (is_mark m.Ampersand) span_of (reads (at_depth c.args.depth) label_not) n
-        (c.count-turn-end.result - (c.loop-turn.turn + 1)) c.loop-turn.all c.loop-turn.tokens c.skip.new.self (omega arith)
-        (sym c.next_is.ensures ∙ c.if-not-next_is.false) c.skip.ensures in
+    (c.count-turn-end.result - (c.loop-turn.turn + 1)) c.loop-turn.all c.loop-turn.tokens c.skip.new.self (omega arith)
+    (sym c.next_is.ensures ∙ c.if-not-next_is.false) c.skip.ensures in
     let f = sym e ∙ c.loop-turn.invariant in
     first_of (search rules, grind (arith, common_steps))
 
@@ -50,8 +50,8 @@ pub more_ands-loop-turn-preserved : goal.more_ands-loop-turn-preserved
 more_ands-loop-turn-preserved t c =
     let n = c.count-turn-end.result - c.loop-turn.turn in
     let e = more-step (is_mark m.Ampersand) span_of (reads (at_depth c.args.depth) label_not) n
-        (c.count-turn-end.result - (c.loop-turn.turn + 1)) c.loop-turn.all c.loop-turn.tokens c.skip.new.self (omega arith)
-        (sym c.next_is.ensures ∙ c.if-not-next_is.false) c.skip.ensures in
+    (c.count-turn-end.result - (c.loop-turn.turn + 1)) c.loop-turn.all c.loop-turn.tokens c.skip.new.self (omega arith)
+    (sym c.next_is.ensures ∙ c.if-not-next_is.false) c.skip.ensures in
     let f = sym e ∙ c.loop-turn.invariant in
     first_of (search rules, grind (arith, common_steps))
 
@@ -67,12 +67,12 @@ label_and-returns-in_err-all t c =
     let first = c.in_ok-first.first in
     let one : c.push.new.self ≡ first ∷ [] = c.in_ok-push.ensures.ok ∙ ap (λ l. l ++ first ∷ []) c.new-one.ensures in
     let e : Parses (gathered (is_mark m.Ampersand) (after_p (is_mark m.Ampersand) span_of (reads (at_depth c.args.depth) label_not)) pushed (length c.label_not.new.tokens)
-        (first ∷ []) c.label_not.new.tokens) (Err c.in_err-all.field-0.0) c.more_ands.new.tokens =
-        subst (λ l. Parses (gathered (is_mark m.Ampersand) (after_p (is_mark m.Ampersand) span_of (reads (at_depth c.args.depth) label_not)) pushed
-            (length c.label_not.new.tokens) l c.label_not.new.tokens) (Err c.in_err-all.field-0.0) c.more_ands.new.tokens) one c.in_err-all.ensures in
+    (first ∷ []) c.label_not.new.tokens) (Err c.in_err-all.field-0.0) c.more_ands.new.tokens =
+    subst (λ l. Parses (gathered (is_mark m.Ampersand) (after_p (is_mark m.Ampersand) span_of (reads (at_depth c.args.depth) label_not)) pushed
+    (length c.label_not.new.tokens) l c.label_not.new.tokens) (Err c.in_err-all.field-0.0) c.more_ands.new.tokens) one c.in_err-all.ensures in
     let g = listed_halt (is_mark m.Ampersand) (after_p (is_mark m.Ampersand) span_of (reads (at_depth c.args.depth) label_not))
-        (reads (at_depth c.args.depth) label_not) and_of And (λ a k ks. refl) c.args.tokens.now c.label_not.new.tokens c.more_ands.new.tokens first c.in_ok-first.ensures
-        c.in_err-all.field-0.0 e in
+    (reads (at_depth c.args.depth) label_not) and_of And (λ a k ks. refl) c.args.tokens.now c.label_not.new.tokens c.more_ands.new.tokens first c.in_ok-first.ensures
+    c.in_err-all.field-0.0 e in
     first_of (search rules, grind (arith, common_steps))
 
 pub label_and-returns : goal.label_and-returns
@@ -81,19 +81,19 @@ label_and-returns t c =
     let first = c.in_ok-first.first in
     let one : c.push.new.self ≡ first ∷ [] = c.in_ok-push.ensures.ok ∙ ap (λ l. l ++ first ∷ []) c.new-one.ensures in
     let e : gathered (is_mark m.Ampersand) (after_p (is_mark m.Ampersand) span_of (reads (at_depth c.args.depth) label_not)) pushed (length c.label_not.new.tokens)
-        (first ∷ []) c.label_not.new.tokens ≡ got c.in_ok-all.all c.more_ands.new.tokens =
-        subst (λ l. gathered (is_mark m.Ampersand) (after_p (is_mark m.Ampersand) span_of (reads (at_depth c.args.depth) label_not)) pushed
-            (length c.label_not.new.tokens) l c.label_not.new.tokens ≡ got c.in_ok-all.all c.more_ands.new.tokens) one c.in_ok-all.ensures in
+    (first ∷ []) c.label_not.new.tokens ≡ got c.in_ok-all.all c.more_ands.new.tokens =
+    subst (λ l. gathered (is_mark m.Ampersand) (after_p (is_mark m.Ampersand) span_of (reads (at_depth c.args.depth) label_not)) pushed
+    (length c.label_not.new.tokens) l c.label_not.new.tokens ≡ got c.in_ok-all.all c.more_ands.new.tokens) one c.in_ok-all.ensures in
     listed_all (is_mark m.Ampersand) (after_p (is_mark m.Ampersand) span_of (reads (at_depth c.args.depth) label_not)) (reads (at_depth c.args.depth) label_not) and_of And
-        (λ a k ks. refl) c.args.tokens.now c.label_not.new.tokens c.more_ands.new.tokens first c.in_ok-all.all c.in_ok-first.ensures
-        (sym c.next_is.ensures ∙ c.if-not-next_is.false) e
+    (λ a k ks. refl) c.args.tokens.now c.label_not.new.tokens c.more_ands.new.tokens first c.in_ok-all.all c.in_ok-first.ensures
+    (sym c.next_is.ensures ∙ c.if-not-next_is.false) e
 
 pub more_ors-returns-in_err-item : goal.more_ors-returns-in_err-item
 more_ors-returns-in_err-item t c =
     let n = c.count-turn-end.result - c.loop-turn.turn in
     let e = more-step (is_mark m.VerticalBar) span_of (reads (at_depth c.args.depth) label_and) n
-        (c.count-turn-end.result - (c.loop-turn.turn + 1)) c.loop-turn.all c.loop-turn.tokens c.skip.new.self (omega arith)
-        (sym c.next_is.ensures ∙ c.if-not-next_is.false) c.skip.ensures in
+    (c.count-turn-end.result - (c.loop-turn.turn + 1)) c.loop-turn.all c.loop-turn.tokens c.skip.new.self (omega arith)
+    (sym c.next_is.ensures ∙ c.if-not-next_is.false) c.skip.ensures in
     let f = sym e ∙ c.loop-turn.invariant in
     first_of (search rules, grind (arith, common_steps))
 
@@ -101,8 +101,8 @@ pub more_ors-loop-turn-preserved : goal.more_ors-loop-turn-preserved
 more_ors-loop-turn-preserved t c =
     let n = c.count-turn-end.result - c.loop-turn.turn in
     let e = more-step (is_mark m.VerticalBar) span_of (reads (at_depth c.args.depth) label_and) n
-        (c.count-turn-end.result - (c.loop-turn.turn + 1)) c.loop-turn.all c.loop-turn.tokens c.skip.new.self (omega arith)
-        (sym c.next_is.ensures ∙ c.if-not-next_is.false) c.skip.ensures in
+    (c.count-turn-end.result - (c.loop-turn.turn + 1)) c.loop-turn.all c.loop-turn.tokens c.skip.new.self (omega arith)
+    (sym c.next_is.ensures ∙ c.if-not-next_is.false) c.skip.ensures in
     let f = sym e ∙ c.loop-turn.invariant in
     first_of (search rules, grind (arith, common_steps))
 
@@ -118,12 +118,12 @@ label_union-returns-in_err-all t c =
     let first = c.in_ok-first.first in
     let one : c.push.new.self ≡ first ∷ [] = c.in_ok-push.ensures.ok ∙ ap (λ l. l ++ first ∷ []) c.new-one.ensures in
     let e : Parses (gathered (is_mark m.VerticalBar) (after_p (is_mark m.VerticalBar) span_of (reads (at_depth c.args.depth) label_and)) pushed
-        (length c.label_and.new.tokens) (first ∷ []) c.label_and.new.tokens) (Err c.in_err-all.field-0.0) c.more_ors.new.tokens =
-        subst (λ l. Parses (gathered (is_mark m.VerticalBar) (after_p (is_mark m.VerticalBar) span_of (reads (at_depth c.args.depth) label_and)) pushed
-            (length c.label_and.new.tokens) l c.label_and.new.tokens) (Err c.in_err-all.field-0.0) c.more_ors.new.tokens) one c.in_err-all.ensures in
+    (length c.label_and.new.tokens) (first ∷ []) c.label_and.new.tokens) (Err c.in_err-all.field-0.0) c.more_ors.new.tokens =
+    subst (λ l. Parses (gathered (is_mark m.VerticalBar) (after_p (is_mark m.VerticalBar) span_of (reads (at_depth c.args.depth) label_and)) pushed
+    (length c.label_and.new.tokens) l c.label_and.new.tokens) (Err c.in_err-all.field-0.0) c.more_ors.new.tokens) one c.in_err-all.ensures in
     let g = listed_halt (is_mark m.VerticalBar) (after_p (is_mark m.VerticalBar) span_of (reads (at_depth c.args.depth) label_and))
-        (reads (at_depth c.args.depth) label_and) or_of Or (λ a k ks. refl) c.args.tokens.now c.label_and.new.tokens c.more_ors.new.tokens first c.in_ok-first.ensures
-        c.in_err-all.field-0.0 e in
+    (reads (at_depth c.args.depth) label_and) or_of Or (λ a k ks. refl) c.args.tokens.now c.label_and.new.tokens c.more_ors.new.tokens first c.in_ok-first.ensures
+    c.in_err-all.field-0.0 e in
     first_of (search rules, grind (arith, common_steps))
 
 pub label_union-returns : goal.label_union-returns
@@ -132,9 +132,9 @@ label_union-returns t c =
     let first = c.in_ok-first.first in
     let one : c.push.new.self ≡ first ∷ [] = c.in_ok-push.ensures.ok ∙ ap (λ l. l ++ first ∷ []) c.new-one.ensures in
     let e : gathered (is_mark m.VerticalBar) (after_p (is_mark m.VerticalBar) span_of (reads (at_depth c.args.depth) label_and)) pushed (length c.label_and.new.tokens)
-        (first ∷ []) c.label_and.new.tokens ≡ got c.in_ok-all.all c.more_ors.new.tokens =
-        subst (λ l. gathered (is_mark m.VerticalBar) (after_p (is_mark m.VerticalBar) span_of (reads (at_depth c.args.depth) label_and)) pushed
-            (length c.label_and.new.tokens) l c.label_and.new.tokens ≡ got c.in_ok-all.all c.more_ors.new.tokens) one c.in_ok-all.ensures in
+    (first ∷ []) c.label_and.new.tokens ≡ got c.in_ok-all.all c.more_ors.new.tokens =
+    subst (λ l. gathered (is_mark m.VerticalBar) (after_p (is_mark m.VerticalBar) span_of (reads (at_depth c.args.depth) label_and)) pushed
+    (length c.label_and.new.tokens) l c.label_and.new.tokens ≡ got c.in_ok-all.all c.more_ors.new.tokens) one c.in_ok-all.ensures in
     listed_all (is_mark m.VerticalBar) (after_p (is_mark m.VerticalBar) span_of (reads (at_depth c.args.depth) label_and))
-        (reads (at_depth c.args.depth) label_and) or_of Or (λ a k ks. refl) c.args.tokens.now c.label_and.new.tokens c.more_ors.new.tokens first c.in_ok-all.all
-        c.in_ok-first.ensures (sym c.next_is.ensures ∙ c.if-not-next_is.false) e
+    (reads (at_depth c.args.depth) label_and) or_of Or (λ a k ks. refl) c.args.tokens.now c.label_and.new.tokens c.more_ors.new.tokens first c.in_ok-all.all
+    c.in_ok-first.ensures (sym c.next_is.ensures ∙ c.if-not-next_is.false) e

@@ -7,7 +7,7 @@ use Rattle.pattern_parser.proofs.parsing.parse_query.Goals as goal
 pub overflow_sub-place : goal.overflow_sub-place
 overflow_sub-place c =
     let short : length c.whole.new.tokens ≤ length c.args.tokens.now = left_short c.args.tokens.now c.new-left.result c.new-left.ensures c.in-Err-Refused.cause
-        c.whole.new.tokens (rw c.in-Err-Refused.field-0-is at c.in-Err-Refused.ensures) in
+    c.whole.new.tokens (rw c.in-Err-Refused.field-0-is at c.in-Err-Refused.ensures) in
     omega (arith, c.count.ensures)
 
 pub returns-in-Ok-clause-ok : goal.returns-in-Ok-clause-ok
@@ -17,9 +17,11 @@ pub returns-in-Ok-clause-shallow : goal.returns-in-Ok-clause-shallow
 returns-in-Ok-clause-shallow c = shallow c.args.tokens.now c.new-left.result c.new-left.ensures c.in-Ok.tree c.whole.new.tokens c.in-Ok.ensures
 
 pub returns-in-Ok-clause-due : goal.returns-in-Ok-clause-due
-returns-in-Ok-clause-due c = λ due is. one_outcome c.args.tokens.now c.args.end due (Ok c.in-Ok.tree) is
-    (ok c.args.tokens.now c.new-left.result c.new-left.ensures c.in-Ok.tree c.whole.new.tokens c.in-Ok.ensures, shallow c.args.tokens.now c.new-left.result
-        c.new-left.ensures c.in-Ok.tree c.whole.new.tokens c.in-Ok.ensures)
+returns-in-Ok-clause-due c = λ due is. one_outcome c.args.tokens.now c.args.end due (Ok c.in-Ok.tree) is (
+  ok c.args.tokens.now c.new-left.result c.new-left.ensures c.in-Ok.tree c.whole.new.tokens c.in-Ok.ensures,
+  shallow c.args.tokens.now c.new-left.result
+      c.new-left.ensures c.in-Ok.tree c.whole.new.tokens c.in-Ok.ensures,
+)
 
 pub returns-in-Ok-clause-spans : goal.returns-in-Ok-clause-spans
 returns-in-Ok-clause-spans c = λ h. spans_lie c.args.end c.args.tokens.now c.in-Ok.tree h
@@ -28,7 +30,7 @@ returns-in-Ok-clause-spans c = λ h. spans_lie c.args.end c.args.tokens.now c.in
 is_first : goal.returns-in-Err-Refused-clause-refused
 is_first c =
     let short : length c.whole.new.tokens ≤ length c.args.tokens.now = left_short c.args.tokens.now c.new-left.result c.new-left.ensures c.in-Err-Refused.cause
-        c.whole.new.tokens (rw c.in-Err-Refused.field-0-is at c.in-Err-Refused.ensures) in
+    c.whole.new.tokens (rw c.in-Err-Refused.field-0-is at c.in-Err-Refused.ensures) in
     record {
       role = refl;
       detail = refl;

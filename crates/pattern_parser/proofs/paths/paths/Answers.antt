@@ -14,7 +14,7 @@ pub returns-in_err-item : goal.returns-in_err-item
 returns-in_err-item c =
     let n = c.count-turn-end.result - c.loop-turn.turn in
     let e = more-step (is_mark m.Comma) span_of (reads (at_depth c.args.depth) path) n (c.count-turn-end.result - (c.loop-turn.turn + 1)) c.loop-turn.all c.loop-turn.tokens
-        c.skip.new.self (omega arith) (sym c.next_is.ensures ∙ c.if-not-next_is.false) c.skip.ensures in
+    c.skip.new.self (omega arith) (sym c.next_is.ensures ∙ c.if-not-next_is.false) c.skip.ensures in
     let f = sym e ∙ c.loop-turn.invariant in
     first_of (search rules, grind (arith, common_steps))
 
@@ -22,14 +22,14 @@ pub loop-turn-preserved : goal.loop-turn-preserved
 loop-turn-preserved c =
     let n = c.count-turn-end.result - c.loop-turn.turn in
     let e = more-step (is_mark m.Comma) span_of (reads (at_depth c.args.depth) path) n (c.count-turn-end.result - (c.loop-turn.turn + 1)) c.loop-turn.all c.loop-turn.tokens
-        c.skip.new.self (omega arith) (sym c.next_is.ensures ∙ c.if-not-next_is.false) c.skip.ensures in
+    c.skip.new.self (omega arith) (sym c.next_is.ensures ∙ c.if-not-next_is.false) c.skip.ensures in
     let f = sym e ∙ c.loop-turn.invariant in
     first_of (search rules, grind (arith, common_steps))
 
 pub loop-turn-init : goal.loop-turn-init
 loop-turn-init c =
     list_start (reads (at_depth c.args.depth) path) c.args.tokens.now c.path.new.tokens c.in_ok-first.first
-        (c.count-turn-end.result - 0) c.push.new.self c.in_ok-first.ensures (omega (arith, c.count-turn-end.ensures))
+    (c.count-turn-end.result - 0) c.push.new.self c.in_ok-first.ensures (omega (arith, c.count-turn-end.ensures))
     (c.in_ok-push.ensures.ok ∙ ap (λ l. l ++ c.in_ok-first.first ∷ []) c.new-all.ensures)
 
 pub returns : goal.returns

@@ -46,7 +46,7 @@ pub more_factors-loop-turn-preserved : goal.more_factors-loop-turn-preserved
 more_factors-loop-turn-preserved t c =
     let n = c.count-turn-end.result - c.loop-turn.turn in
     let e = gathered-step (on class starts_factor) (reads (at_depth c.args.depth) factor) with_factor n
-        (c.count-turn-end.result - (c.loop-turn.turn + 1)) c.loop-turn.run c.loop-turn.tokens (omega arith) (sym c.next_is_factor.ensures ∙ c.if-not-next_is_factor.false) in
+    (c.count-turn-end.result - (c.loop-turn.turn + 1)) c.loop-turn.run c.loop-turn.tokens (omega arith) (sym c.next_is_factor.ensures ∙ c.if-not-next_is_factor.false) in
     let f = sym e ∙ c.loop-turn.invariant in
     first_of (search rules, grind (arith, common_steps))
 
@@ -54,7 +54,7 @@ pub more_operands-loop-turn-preserved : goal.more_operands-loop-turn-preserved
 more_operands-loop-turn-preserved t c =
     let n = c.count-turn-end.result - c.loop-turn.turn in
     let e = gathered-step (is_mark m.VerticalBar) (reads (at_depth c.args.depth) joined) with_operand n
-        (c.count-turn-end.result - (c.loop-turn.turn + 1)) c.loop-turn.all c.loop-turn.tokens (omega arith) (sym c.next_is.ensures ∙ c.if-not-next_is.false) in
+    (c.count-turn-end.result - (c.loop-turn.turn + 1)) c.loop-turn.all c.loop-turn.tokens (omega arith) (sym c.next_is.ensures ∙ c.if-not-next_is.false) in
     let f = sym e ∙ c.loop-turn.invariant in
     first_of (search rules, grind (arith, common_steps))
 
@@ -66,10 +66,10 @@ sequence-returns-in_err-run t c =
     let P = reads (at_depth c.args.depth) factor in
     let pushed_one : c.push.new.self ≡ first.node ∷ [] = c.in_ok-push.ensures.ok ∙ ap (λ l. l ++ first.node ∷ []) c.new-factors.ensures in
     let e : Parses (gathered F P with_factor (length c.factor.new.tokens) (first_run first) c.factor.new.tokens) (Err c.in_err-run.field-0.0) c.more_factors.new.tokens =
-        subst (λ l. Parses (gathered F P with_factor (length c.factor.new.tokens) (let run : Run = record { factors = l; span = first.span } in run) c.factor.new.tokens)
-            (Err c.in_err-run.field-0.0) c.more_factors.new.tokens) pushed_one c.in_err-run.ensures in
+    subst (λ l. Parses (gathered F P with_factor (length c.factor.new.tokens) (let run : Run = record { factors = l; span = first.span } in run) c.factor.new.tokens)
+    (Err c.in_err-run.field-0.0) c.more_factors.new.tokens) pushed_one c.in_err-run.ensures in
     let g = through_halt P (many_p F P) sequence_value first (λ (more : List (Placed Factor)). folded with_factor (first_run first) more) sequence_from (sequence_made first)
-        c.args.tokens.now c.factor.new.tokens c.more_factors.new.tokens c.in_ok-first.ensures c.in_err-run.field-0.0 e in
+    c.args.tokens.now c.factor.new.tokens c.more_factors.new.tokens c.in_ok-first.ensures c.in_err-run.field-0.0 e in
     first_of (search rules, grind (arith, common_steps))
 
 pub sequence-returns : goal.sequence-returns
@@ -80,8 +80,8 @@ sequence-returns t c =
     let P = reads (at_depth c.args.depth) factor in
     let pushed_one : c.push.new.self ≡ first.node ∷ [] = c.in_ok-push.ensures.ok ∙ ap (λ l. l ++ first.node ∷ []) c.new-factors.ensures in
     let e : gathered F P with_factor (length c.factor.new.tokens) (first_run first) c.factor.new.tokens ≡ got c.in_ok-run.run' c.more_factors.new.tokens =
-        subst (λ l. gathered F P with_factor (length c.factor.new.tokens) (let run : Run = record { factors = l; span = first.span } in run) c.factor.new.tokens ≡ got
-            c.in_ok-run.run' c.more_factors.new.tokens) pushed_one c.in_ok-run.ensures in
+    subst (λ l. gathered F P with_factor (length c.factor.new.tokens) (let run : Run = record { factors = l; span = first.span } in run) c.factor.new.tokens ≡ got
+    c.in_ok-run.run' c.more_factors.new.tokens) pushed_one c.in_ok-run.ensures in
     seq-through P (many_p F P) sequence_value first (λ (more : List (Placed Factor)). folded with_factor (first_run first) more) sequence_from (sequence_made first)
     c.args.tokens.now c.factor.new.tokens c.more_factors.new.tokens c.in_ok-run.run' c.in_ok-first.ensures e
 
@@ -93,19 +93,19 @@ union-returns-in_err-all t c =
     let Q = reads (at_depth c.args.depth) joined in
     let pushed_one : c.push.new.self ≡ first.node ∷ [] = c.in_ok-push.ensures.ok ∙ ap (λ l. l ++ first.node ∷ []) c.new-operands.ensures in
     let e0 : Parses (gathered (is_mark m.VerticalBar) Q with_operand (length c.sequence.new.tokens)
-        (let all : Operands = record { operands = first.node ∷ []; joints = c.new-joints.result; span = first.span } in all) c.sequence.new.tokens)
-        (Err c.in_err-all.field-0.0) c.more_operands.new.tokens =
-        subst (λ l. Parses (gathered (is_mark m.VerticalBar) Q with_operand (length c.sequence.new.tokens)
-            (let all : Operands = record { operands = l; joints = c.new-joints.result; span = first.span } in all) c.sequence.new.tokens)
-            (Err c.in_err-all.field-0.0) c.more_operands.new.tokens) pushed_one c.in_err-all.ensures in
+    (let all : Operands = record { operands = first.node ∷ []; joints = c.new-joints.result; span = first.span } in all) c.sequence.new.tokens)
+    (Err c.in_err-all.field-0.0) c.more_operands.new.tokens =
+    subst (λ l. Parses (gathered (is_mark m.VerticalBar) Q with_operand (length c.sequence.new.tokens)
+    (let all : Operands = record { operands = l; joints = c.new-joints.result; span = first.span } in all) c.sequence.new.tokens)
+    (Err c.in_err-all.field-0.0) c.more_operands.new.tokens) pushed_one c.in_err-all.ensures in
     let e : Parses (gathered (is_mark m.VerticalBar) Q with_operand (length c.sequence.new.tokens) (first_operand first) c.sequence.new.tokens)
-        (Err c.in_err-all.field-0.0) c.more_operands.new.tokens =
-        subst (λ l. Parses (gathered (is_mark m.VerticalBar) Q with_operand (length c.sequence.new.tokens)
-            (let all : Operands = record { operands = first.node ∷ []; joints = l; span = first.span } in all) c.sequence.new.tokens)
-            (Err c.in_err-all.field-0.0) c.more_operands.new.tokens) c.new-joints.ensures e0 in
+    (Err c.in_err-all.field-0.0) c.more_operands.new.tokens =
+    subst (λ l. Parses (gathered (is_mark m.VerticalBar) Q with_operand (length c.sequence.new.tokens)
+    (let all : Operands = record { operands = first.node ∷ []; joints = l; span = first.span } in all) c.sequence.new.tokens)
+    (Err c.in_err-all.field-0.0) c.more_operands.new.tokens) c.new-joints.ensures e0 in
     let g = through_halt P (many_p (is_mark m.VerticalBar) Q) union_value first (λ (more : List Joined). folded with_operand (first_operand first) more) union_from
-        (union_made first)
-        c.args.tokens.now c.sequence.new.tokens c.more_operands.new.tokens c.in_ok-first.ensures c.in_err-all.field-0.0 e in
+    (union_made first)
+    c.args.tokens.now c.sequence.new.tokens c.more_operands.new.tokens c.in_ok-first.ensures c.in_err-all.field-0.0 e in
     first_of (search rules, grind (arith, common_steps))
 
 pub union-returns : goal.union-returns
@@ -116,15 +116,15 @@ union-returns t c =
     let Q = reads (at_depth c.args.depth) joined in
     let pushed_one : c.push.new.self ≡ first.node ∷ [] = c.in_ok-push.ensures.ok ∙ ap (λ l. l ++ first.node ∷ []) c.new-operands.ensures in
     let e0 : gathered (is_mark m.VerticalBar) Q with_operand (length c.sequence.new.tokens)
-        (let all : Operands = record { operands = first.node ∷ []; joints = c.new-joints.result; span = first.span } in all) c.sequence.new.tokens ≡ got c.in_ok-all.all
-        c.more_operands.new.tokens =
-        subst (λ l. gathered (is_mark m.VerticalBar) Q with_operand (length c.sequence.new.tokens)
-            (let all : Operands = record { operands = l; joints = c.new-joints.result; span = first.span } in all) c.sequence.new.tokens ≡ got c.in_ok-all.all
-            c.more_operands.new.tokens) pushed_one c.in_ok-all.ensures in
+    (let all : Operands = record { operands = first.node ∷ []; joints = c.new-joints.result; span = first.span } in all) c.sequence.new.tokens ≡ got c.in_ok-all.all
+    c.more_operands.new.tokens =
+    subst (λ l. gathered (is_mark m.VerticalBar) Q with_operand (length c.sequence.new.tokens)
+    (let all : Operands = record { operands = l; joints = c.new-joints.result; span = first.span } in all) c.sequence.new.tokens ≡ got c.in_ok-all.all
+    c.more_operands.new.tokens) pushed_one c.in_ok-all.ensures in
     let e : gathered (is_mark m.VerticalBar) Q with_operand (length c.sequence.new.tokens)
-        (first_operand first) c.sequence.new.tokens ≡ got c.in_ok-all.all c.more_operands.new.tokens =
-        subst (λ l. gathered (is_mark m.VerticalBar) Q with_operand (length c.sequence.new.tokens)
-            (let all : Operands = record { operands = first.node ∷ []; joints = l; span = first.span } in all) c.sequence.new.tokens ≡ got c.in_ok-all.all
-            c.more_operands.new.tokens) c.new-joints.ensures e0 in
+    (first_operand first) c.sequence.new.tokens ≡ got c.in_ok-all.all c.more_operands.new.tokens =
+    subst (λ l. gathered (is_mark m.VerticalBar) Q with_operand (length c.sequence.new.tokens)
+    (let all : Operands = record { operands = first.node ∷ []; joints = l; span = first.span } in all) c.sequence.new.tokens ≡ got c.in_ok-all.all
+    c.more_operands.new.tokens) c.new-joints.ensures e0 in
     seq-through P (many_p (is_mark m.VerticalBar) Q) union_value first (λ (more : List Joined). folded with_operand (first_operand first) more) union_from (union_made first)
     c.args.tokens.now c.sequence.new.tokens c.more_operands.new.tokens c.in_ok-all.all c.in_ok-first.ensures e

@@ -20,9 +20,9 @@ unfolding after_group_word g.truth_test g.truth_word
 returns c =
     let k : Inside Own = Inside.own Own.variables in
     let n : nested_p c.args.depth k c.args.tokens.now ≡ got (c.in_ok-open.field-0, c.in_ok-variables.variables, c.in_ok-closing.closing) c.expect.new.tokens = first_of
-        (search rules, grind (arith, common_steps)) in
+    (search rules, grind (arith, common_steps)) in
     let e = ended (reads (at_depth c.args.depth) (mapped (λ d. grouped d.1 d.2) (nest span_of left_parenthesis right_parenthesis k))) (reads flat (opt truth_test))
-        with_test c.args.word c.args.tokens.now c.expect.new.tokens c.in_ok-predicate.predicate
+    with_test c.args.word c.args.tokens.now c.expect.new.tokens c.in_ok-predicate.predicate
     (ap (λ z. bind (bind z (λ d l. got (grouped d.1 d.2) l)) (λ f l. got (f c.args.word) l)) (nest_is c.args.depth k c.args.tokens.now ∙ n)
-        ∙ ap (λ x. got x c.expect.new.tokens) (sym c.in_ok-predicate.ensures)) in
+    ∙ ap (λ x. got x c.expect.new.tokens) (sym c.in_ok-predicate.ensures)) in
     subst (λ a. Parses a c.truth_end.result c.truth_end.new.tokens) (sym e) c.truth_end.ensures
