@@ -17,5 +17,7 @@ mod queries;
 mod shown;
 #[cfg(test)]
 mod tests;
+#[cfg(test)]
+mod verdict_tests;
 
 pub use parsing::{one_outcome, one_tree, parse_query, tree_in_text};
