@@ -1,4 +1,5 @@
 pub mod Checked
+pub mod CheckedQueries
 pub mod Given
 pub mod OneDue
 pub mod Placed

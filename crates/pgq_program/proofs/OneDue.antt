@@ -1,20 +1,27 @@
 -- What the words are due is one answer.
 use Rattle.std.proofs.Common.{◌≡◌, sym, ap, ap₂, ◌∙◌, subst, ℕ, List, length, Option, None, Some, inl, inr, Result, Ok, Err}
 use Rattle.pgq_base.specs.declared.refusal.Refusal.{Refusal}
-use Rattle.pgq_base.specs.declared.refusal.Role.TheVariants.{Schema}
+use Rattle.pgq_base.specs.declared.refusal.Role.{Role}
+use Rattle.pgq_base.specs.declared.refusal.Role.TheVariants.{Schema, Query}
 use Rattle.sql_lexer.specs.declared.token.Token.{Token}
 use Rattle.sql_lexer.specs.Texts.{refusal}
 use Rattle.sql_lexer.proofs.Uniqueness.{tokens_unique, fault_unique, fault_excludes}
 use Rattle.graph_ast.specs.declared.schema.SchemaTree.{SchemaTree}
+use Rattle.graph_ast.specs.declared.catalog.Catalog.{Catalog}
+use Rattle.graph_ast.specs.declared.query.QueryTree.{QueryTree}
 use Rattle.schema_parser.specs.Outcomes.{IsOutcome}
 use Rattle.schema_parser.proofs.Whole.{one_outcome}
+use Rattle.pattern_parser.specs.Outcomes as query
+use Rattle.pattern_parser.proofs.Whole as query_text
+use Rattle.pattern_check.specs.Checks as rules
 use Rattle.pgq_program.specs.declared.halt.Halt.{Halt}
 use Rattle.pgq_program.specs.declared.halt.Halt.TheVariants as h
 use Rattle.pgq_program.specs.Chains.{Then, Only}
 use Rattle.pgq_program.specs.Commands.{Asked}
 use Rattle.pgq_program.specs.Outcomes.{Outcome}
+use Rattle.pgq_program.specs.Queries.{served, IsJudged, IsQueryRead}
 use Rattle.pgq_program.specs.Schemas.{IsLexed, IsChecked, IsRead}
-use Rattle.pgq_program.specs.Steps.{Halted, IsCatalogAt, Owes, text_at, translate_due}
+use Rattle.pgq_program.specs.Steps.{Halted, IsCatalogAt, IsQueryAt, IsCheckedAt, Owes, text_at, translate_due}
 
 abbrev pub IsSingle : {A E : Type 0} → (Result A E → Type 0) → Type 0
 IsSingle {A} {E} due = (x y : Result A E) → due x → due y → x ≡ y
@@ -46,11 +53,11 @@ module _ {A B E : Type 0} (first : Result A E → Type 0) (following : A → Res
   single_then (Err e) (Err f) (inr (a, p, q)) (inl r) = absurd (ok_not_err a f (one (Ok a) (Err f) p r))
   single_then (Err e) (Err f) (inr (a, p, q)) (inr (b, r, t)) = each a (Err e) (Err f) q (same_step a b (Err f) p r t)
 
-single_lexed : (text : List ℕ) → IsSingle (IsLexed text)
-single_lexed text (Ok xs) (Ok ys) p q = ap Ok (tokens_unique text xs ys p.0 q.0)
-single_lexed text (Ok xs) (Err f) p q = absurd (fault_excludes text xs f.code f.span p.0 p.1 q.1)
-single_lexed text (Err e) (Ok ys) p q = absurd (fault_excludes text ys e.code e.span q.0 q.1 p.1)
-single_lexed text (Err e) (Err f) p q = let u = fault_unique text e.code f.code e.span f.span p.1 q.1 in ap Err (p.0 ∙ ap₂ (refusal Schema) u.0 u.1 ∙ sym q.0)
+single_lexed : (role : Role) (text : List ℕ) → IsSingle (IsLexed role text)
+single_lexed role text (Ok xs) (Ok ys) p q = ap Ok (tokens_unique text xs ys p.0 q.0)
+single_lexed role text (Ok xs) (Err f) p q = absurd (fault_excludes text xs f.code f.span p.0 p.1 q.1)
+single_lexed role text (Err e) (Ok ys) p q = absurd (fault_excludes text ys e.code e.span q.0 q.1 p.1)
+single_lexed role text (Err e) (Err f) p q = let u = fault_unique text e.code f.code e.span f.span p.1 q.1 in ap Err (p.0 ∙ ap₂ (refusal role) u.0 u.1 ∙ sym q.0)
 
 single_parsed : (end : ℕ) (tokens : List Token) → IsSingle (IsOutcome tokens end)
 single_parsed end tokens = one_outcome tokens end
@@ -62,8 +69,15 @@ single_checked tree (Err e) (Ok y) p q = cc
 single_checked tree (Err e) (Err f) p q = cc
 
 single_read : (text : List ℕ) → IsSingle (IsRead text)
-single_read text = single_then (IsLexed text) (λ tokens. Then (IsOutcome tokens (length text)) IsChecked) (single_lexed text)
+single_read text = single_then (IsLexed Schema text) (λ tokens. Then (IsOutcome tokens (length text)) IsChecked) (single_lexed Schema text)
     (λ tokens. single_then (IsOutcome tokens (length text)) IsChecked (single_parsed (length text) tokens) single_checked)
+
+single_judged : (catalog : Catalog) (tree : QueryTree) → IsSingle (IsJudged catalog tree)
+single_judged catalog tree = single_then (Only (served tree)) (λ tree. Only (rules.due catalog tree)) (single_only (served tree)) (λ tree. single_only (rules.due catalog tree))
+
+single_query : (catalog : Catalog) (text : List ℕ) → IsSingle (IsQueryRead catalog text)
+single_query catalog text = single_then (IsLexed Query text) (λ tokens. Then (query.IsOutcome tokens (length text)) (IsJudged catalog)) (single_lexed Query text)
+    (λ tokens. single_then (query.IsOutcome tokens (length text)) (IsJudged catalog) (query_text.one_outcome tokens (length text)) (single_judged catalog))
 
 single_halted : {A : Type 0} (due : Result A Refusal → Type 0) → IsSingle due → IsSingle (Halted due)
 single_halted due one (Ok x) (Ok y) p q = ap Ok (ok_inside x y (one (Ok x) (Ok y) p q))
@@ -80,12 +94,26 @@ single_halted due one (Err h.Usage) y p q = absurd p
 single_halted due one (Err h.ReadFault) y p q = absurd p
 single_halted due one (Err h.NoMemory) y p q = absurd p
 
+single_catalog_at : (schema : List ℕ) (files : List (List ℕ × List ℕ)) → IsSingle (IsCatalogAt schema files)
+single_catalog_at schema files =
+    single_then (Only (text_at Schema schema files)) (λ text. Halted (IsRead text)) (single_only (text_at Schema schema files)) (λ text. single_halted (IsRead text) (single_read text))
+
+single_query_at : (catalog : Catalog) (name : List ℕ) (files : List (List ℕ × List ℕ)) → IsSingle (IsQueryAt catalog name files)
+single_query_at catalog name files =
+    single_then (Only (text_at Query name files)) (λ text. Halted (IsQueryRead catalog text)) (single_only (text_at Query name files))
+    (λ text. single_halted (IsQueryRead catalog text) (single_query catalog text))
+
+single_checked_at : (schema name : List ℕ) (files : List (List ℕ × List ℕ)) → IsSingle (IsCheckedAt schema name files)
+single_checked_at schema name files =
+    single_then (IsCatalogAt schema files) (λ catalog. IsQueryAt catalog name files) (single_catalog_at schema files) (λ catalog. single_query_at catalog name files)
+
 -- the words are due one answer
 pub single_owes : (asked : Option Asked) (files : List (List ℕ × List ℕ)) (x y : Result Outcome Halt) → Owes asked files x → Owes asked files y → x ≡ y
 single_owes None files = λ x y p q. p ∙ sym q
 single_owes (Some (Asked.OfTranslate schema query)) files =
     single_then (Only (translate_due schema query files)) (λ checked. Only (Ok (Outcome.Translation checked.0 checked.1))) (single_only (translate_due schema query files)) (λ checked. single_only (Ok (Outcome.Translation checked.0 checked.1)))
 single_owes (Some (Asked.OfCheck schema)) files =
-    single_then (IsCatalogAt schema files) (λ catalog. Only (Ok Outcome.Sound))
-    (single_then (Only (text_at Schema schema files)) (λ text. Halted (IsRead text)) (single_only (text_at Schema schema files)) (λ text. single_halted (IsRead text) (single_read text)))
-    (λ catalog. single_only (Ok Outcome.Sound))
+    single_then (IsCatalogAt schema files) (λ catalog. Only (Ok Outcome.Sound)) (single_catalog_at schema files) (λ catalog. single_only (Ok Outcome.Sound))
+single_owes (Some (Asked.OfCheckQuery schema name)) files =
+    single_then (IsCheckedAt schema name files) (λ checked. Only (Ok (Outcome.Weighed checked.weight))) (single_checked_at schema name files)
+    (λ checked. single_only (Ok (Outcome.Weighed checked.weight)))

@@ -30,9 +30,10 @@ ruled_by : (n : ℕ) (o : Option Fault) (catalog : Catalog) (r : Refusal) → Fa
 ruled_by n None catalog r lies e = absurd cc
 ruled_by n (Some f) catalog r lies e = let same : refusal_of f ≡ r = cc in subst (IsPlaced Schema n) same (refl, (lies.ordered, lies.within))
 
+pub lexed : (role : Role) (text : List ℕ) (r : Refusal) → IsLexed role text (Err r) → IsPlaced role (length text) r
+lexed role text r fault = (ap (λ (r : Refusal). r.role) fault.0, first_within text r.code r.span fault.1)
+
 module _ (text : List ℕ) where
-  lexed : (r : Refusal) → IsLexed text (Err r) → IsPlaced Schema (length text) r
-  lexed r fault = (ap (λ (r : Refusal). r.role) fault.0, first_within text r.code r.span fault.1)
 
   parsed : (tokens : List Token) (r : Refusal) → AreTokens text tokens → IsOutcome tokens (length text) (Err r) → IsPlaced Schema (length text) r
   parsed tokens r are first = (first.role, subst (LiesIn (length text)) (sym first.span) (span_in_text (length text) first.place tokens (tokens_in text tokens are)))
@@ -43,7 +44,7 @@ module _ (text : List ℕ) where
       ruled_by (length text) (first_fault tree) (catalog_of tree) r (fault_lies (length text) tree (spans_lie (length text) tokens tree (tokens_ordered text tokens are) spelled)) e
 
   pub read : (r : Refusal) → IsRead text (Err r) → IsPlaced Schema (length text) r
-  read r (inl fault) = lexed r fault
+  read r (inl fault) = lexed Schema text r fault
   read r (inr (tokens, are, inl first)) = parsed tokens r are.0 first
   read r (inr (tokens, are, inr (tree, spelled, e))) = ruled tokens tree r are.0 spelled.0 e
 

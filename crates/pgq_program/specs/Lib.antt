@@ -4,6 +4,7 @@ pub mod Lines
 pub mod Meaning
 pub mod Outcomes
 pub mod Places
+pub mod Queries
 pub mod Runs
 pub mod Schemas
 pub mod Steps

@@ -24,6 +24,7 @@ abbrev pub text_for : Option Asked → List (List ℕ × List ℕ) → Role → 
 text_for None files = of_role None None
 text_for (Some (Asked.OfTranslate schema query)) files = of_role (content_of schema files) (content_of query files)
 text_for (Some (Asked.OfCheck schema)) files = of_role (content_of schema files) None
+text_for (Some (Asked.OfCheckQuery schema query)) files = of_role (content_of schema files) (content_of query files)
 
 -- the refusal names a part of the text of its role
 pub record NamesPart (texts : Role → Option (List ℕ)) (refusal : Refusal) : Type 0 where

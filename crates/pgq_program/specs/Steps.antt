@@ -8,6 +8,7 @@ use Rattle.pgq_base.specs.declared.refusal.Refusal.{Refusal}
 use Rattle.pgq_base.specs.declared.refusal.Stop.{Stop}
 use Rattle.pgq_base.specs.declared.refusal.Stop.TheVariants as s
 use Rattle.graph_ast.specs.declared.catalog.Catalog.{Catalog}
+use Rattle.graph_ast.specs.declared.checked.CheckedQuery.{CheckedQuery}
 use Rattle.edge_meaning.specs.declared.graph.EdgeGraph.{EdgeGraph}
 use Rattle.edge_meaning.specs.declared.query.EdgeQuery.{EdgeQuery}
 use Rattle.edge_texts.specs.Refusals.{schema_due}
@@ -17,6 +18,7 @@ use Rattle.pgq_program.specs.declared.halt.Halt.TheVariants as h
 use Rattle.pgq_program.specs.Commands.{Asked}
 use Rattle.pgq_program.specs.Chains.{Then, Only}
 use Rattle.pgq_program.specs.Outcomes.{Outcome, IsTextOf}
+use Rattle.pgq_program.specs.Queries.{IsQueryRead}
 use Rattle.pgq_program.specs.Schemas.{IsRead}
 use Rattle.pgq_program.specs.Texts.{next, sized, checked, Checked}
 
@@ -61,11 +63,20 @@ Halted due (Err h.NoMemory) = ⊥
 abbrev pub IsCatalogAt : List ℕ → List (List ℕ × List ℕ) → Result Catalog Halt → Type 0
 IsCatalogAt name files answer = Then (Only (text_at Schema name files)) (λ text. Halted (IsRead text)) answer
 
+-- the query file is read, and then looked at in the catalog
+abbrev pub IsQueryAt : Catalog → List ℕ → List (List ℕ × List ℕ) → Result CheckedQuery Halt → Type 0
+IsQueryAt catalog name files answer = Then (Only (text_at Query name files)) (λ text. Halted (IsQueryRead catalog text)) answer
+
+-- the schema file first, and then the query file
+abbrev pub IsCheckedAt : List ℕ → List ℕ → List (List ℕ × List ℕ) → Result CheckedQuery Halt → Type 0
+IsCheckedAt schema query files answer = Then (IsCatalogAt schema files) (λ catalog. IsQueryAt catalog query files) answer
+
 -- what the words are due
 abbrev pub Owes : Option Asked → List (List ℕ × List ℕ) → Result Outcome Halt → Type 0
 Owes None files answer = answer ≡ Err h.Usage
 Owes (Some (Asked.OfTranslate schema query)) files answer = Then (Only (translate_due schema query files)) (λ checked. Only (Ok (Outcome.Translation checked.0 checked.1))) answer
 Owes (Some (Asked.OfCheck schema)) files answer = Then (IsCatalogAt schema files) (λ catalog. Only (Ok Outcome.Sound)) answer
+Owes (Some (Asked.OfCheckQuery schema query)) files answer = Then (IsCheckedAt schema query files) (λ checked. Only (Ok (Outcome.Weighed checked.weight))) answer
 
 -- this answer is due, or it is want of memory or a fault, which have their own clauses
 abbrev pub StepGives : {A : Type 0} → (Result A Halt → Type 0) → Result A Halt → Type 0

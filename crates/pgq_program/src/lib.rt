@@ -6,6 +6,7 @@ mod halt;
 mod laws;
 mod lines;
 mod names;
+mod queries;
 mod schemas;
 mod status;
 mod steps;

@@ -18,7 +18,7 @@ fn role_name(role: Role) -> &'static [u8]
     }
 }
 
-fn put_number(alloc: Global, line: &mut List<u8>, number: u64) -> Result<(), NoMemory>
+pub(crate) fn put_number(alloc: Global, line: &mut List<u8>, number: u64) -> Result<(), NoMemory>
     ensures { OnOk result (line.new ≡ line.old ++ decimal number) }
 {
     let digits = number.to_string(alloc)?;

@@ -1,22 +1,25 @@
-ghost use Rattle.std.specs.Prelude.{◌≡◌, ◌≤◌, IfSome, IfOk, IfErr, IsOkAnd, IsErrOf, None, Some, Err, length};
+ghost use Rattle.std.specs.Prelude.{◌≡◌, ◌≤◌, ◌++◌, IfSome, IfOk, IfErr, IsOkAnd, IsErrOf, None, Some, Err, length, codes, decimal};
 ghost use Rattle.multisets.specs.Bags.{IsIn};
 ghost use Rattle.edge_meaning.specs.Queries.{IsGraph, IsPattern, IsOfPattern};
 ghost use Rattle.pgq_base.specs.Files.{IsAsked};
 ghost use Rattle.pgq_program.specs.Chains.{Only};
-ghost use Rattle.pgq_program.specs.Commands.Asked.{OfTranslate, OfCheck};
+ghost use Rattle.pgq_program.specs.Commands.Asked.{OfTranslate, OfCheck, OfCheckQuery};
 ghost use Rattle.pgq_program.specs.Commands.{command_of};
 ghost use Rattle.pgq_program.specs.Meaning.{Means};
+ghost use Rattle.pgq_program.specs.Queries.{IsQueryRead};
 ghost use Rattle.pgq_program.specs.Schemas.{IsRead};
-ghost use Rattle.pgq_program.specs.Steps.{StepGives, StepWrites, IsHaltOf, HaltCause, text_at, graph_at, query_at, translate_due, Halted, IsCatalogAt, Owes};
+ghost use Rattle.pgq_program.specs.Steps.{StepGives, StepWrites, IsHaltOf, HaltCause, text_at, graph_at, query_at, translate_due, Halted, IsCatalogAt, IsQueryAt, IsCheckedAt, Owes};
 
 use crate::halt::Halt;
+use crate::lines::put_number;
+use crate::queries::read_checked;
 use crate::schemas::read_catalog;
 use crate::texts::{TEXT_LIMIT, sql_text, too_large};
 use crate::words::{Command, read_words};
 use edge_meaning::{EdgeGraph, EdgeQuery};
 use edge_texts::{find_fault, read_query, read_schema};
-use graph_ast::Catalog;
-use pgq_base::{List, LoadStop, Role, Shelf, Stop, Text, load};
+use graph_ast::{Catalog, CheckedQuery};
+use pgq_base::{List, LoadStop, NoMemory, Role, Shelf, Stop, Text, load};
 use std::alloc::Global;
 
 fn text_of<F: Shelf>(alloc: Global, files: &mut F, role: Role, name: &str) -> Result<List<u8>, Halt>
@@ -142,6 +145,83 @@ fn check<F: Shelf>(alloc: Global, files: &mut F, schema: &str) -> Result<List<u8
     Ok(text)
 }
 
+fn query_in(alloc: Global, catalog: &Catalog, text: &[u8]) -> Result<CheckedQuery, Halt>
+    requires { length text.now ≤ 1048576 }
+    ensures due { StepGives (Halted (IsQueryRead catalog.now text.now)) result }
+    ensures never { IsErrOf result Halt.Usage → ⊥ }
+    ensures calm { IsErrOf result Halt.ReadFault → ⊥ }
+{
+    match read_checked(alloc, catalog, text) {
+        Ok(query) => Ok(query),
+        Err(Stop::Refused(refusal)) => Err(Halt::Refused(refusal)),
+        Err(Stop::NoMemory) => Err(Halt::NoMemory),
+    }
+}
+
+fn query_at<F: Shelf>(
+    alloc: Global,
+    files: &mut F,
+    catalog: &Catalog,
+    name: &str,
+) -> Result<CheckedQuery, Halt>
+    requires { IsAsked name.now (F.words files.old) }
+    ensures words { F.words files.new ≡ F.words files.old }
+    ensures files { F.files files.new ≡ F.files files.old }
+    ensures cause { HaltCause (F.faults files.old) (F.faults files.new) result }
+    ensures told { IfSome (F.files files.old) (λ told. StepGives (IsQueryAt catalog.now name.now told) result) }
+    ensures never { IsErrOf result Halt.Usage → ⊥ }
+{
+    let text = text_of(alloc, files, Role::Query, name)?;
+    query_in(alloc, catalog, text.as_slice())
+}
+
+// The query of the query text in the catalog of the schema text.
+fn checked_of<F: Shelf>(
+    alloc: Global,
+    files: &mut F,
+    schema: &str,
+    query: &str,
+) -> Result<CheckedQuery, Halt>
+    requires schema { IsAsked schema.now (F.words files.old) }
+    requires query { IsAsked query.now (F.words files.old) }
+    ensures words { F.words files.new ≡ F.words files.old }
+    ensures files { F.files files.new ≡ F.files files.old }
+    ensures cause { HaltCause (F.faults files.old) (F.faults files.new) result }
+    ensures told { IfSome (F.files files.old) (λ told. StepGives (IsCheckedAt schema.now query.now told) result) }
+    ensures never { IsErrOf result Halt.Usage → ⊥ }
+{
+    let catalog = catalog_of(alloc, files, schema)?;
+    query_at(alloc, files, &catalog, query)
+}
+
+fn weight_line(alloc: Global, weight: u64) -> Result<List<u8>, NoMemory>
+    ensures { IfOk result (λ text. text ≡ codes "ok, weight " ++ decimal weight ++ codes "\n") }
+{
+    let mut text = List::new(alloc);
+    text.extend(b"ok, weight ")?;
+    put_number(alloc, &mut text, weight)?;
+    text.extend(b"\n")?;
+    Ok(text)
+}
+
+fn check_with_query<F: Shelf>(
+    alloc: Global,
+    files: &mut F,
+    schema: &str,
+    query: &str,
+) -> Result<List<u8>, Halt>
+    requires schema { IsAsked schema.now (F.words files.old) }
+    requires query { IsAsked query.now (F.words files.old) }
+    ensures words { F.words files.new ≡ F.words files.old }
+    ensures files { F.files files.new ≡ F.files files.old }
+    ensures cause { HaltCause (F.faults files.old) (F.faults files.new) result }
+    ensures never { IsErrOf result Halt.Usage → ⊥ }
+    ensures told { IfSome (F.files files.old) (λ told. StepWrites (Owes (Some (OfCheckQuery schema.now query.now)) told) result) }
+{
+    let checked = checked_of(alloc, files, schema, query)?;
+    Ok(weight_line(alloc, checked.weight)?)
+}
+
 /// The text that the words ask for.
 pub(crate) fn answer<F: Shelf>(
     alloc: Global,
@@ -160,5 +240,6 @@ pub(crate) fn answer<F: Shelf>(
         None => Err(Halt::Usage),
         Some(Command::Translate(schema, query)) => translate(alloc, files, schema, query),
         Some(Command::Check(schema)) => check(alloc, files, schema),
+        Some(Command::CheckQuery(schema, query)) => check_with_query(alloc, files, schema, query),
     }
 }

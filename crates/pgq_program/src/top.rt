@@ -20,11 +20,11 @@ use std::alloc::Global;
 
 /// Does what the words ask for, with the files of the shelf, and puts the outcome on the two sinks.
 ///
-/// `translate SCHEMA QUERY` writes the SQL text that means the query over the tables of the schema, and
-/// `check SCHEMA` writes `ok`. Words of another form are `Usage`. Things are looked at in this order: the
-/// words; the schema file, by its size and then its form, under `check` by its tokens, its grammar and its
-/// rules; the query file, by its size and then its form; then the query's names. The first of them
-/// that is at fault gives the answer.
+/// `translate SCHEMA QUERY` writes the SQL text that means the query over the tables of the schema,
+/// `check SCHEMA` writes `ok`, and `check SCHEMA QUERY` writes `ok, weight W`, W the query's weight in decimal. Words of
+/// another form are `Usage`. Things are looked at in this order: the words; the schema file, by its size and then its form,
+/// under `check` by its tokens, its grammar and its rules; the query file, by its size and then its form and its names, under
+/// `check` by its tokens, its grammar and its rules. The first of them that is at fault gives the answer.
 ///
 /// The whole text is made before its first byte is put on `out`. Under `Done` `out` receives the text and `err`
 /// nothing; under another status `out` receives nothing and `err` one line, unless a sink fails, which is
@@ -43,7 +43,7 @@ pub fn pgq<F: Shelf, S: Sink, E: Sink>(
         (E.received err.old) (E.received err.new) (E.faults err.old) (E.faults err.new) }
 
     // What is written is a text of what is due: of `translate` one that means the query, over every instance that fits; of `check` the
-    // line `ok`, and then the schema text is without faults.
+    // line `ok`, and then the schema text is without faults; with a query the line with its weight, and then the query text is, too.
     ensures done { result ≡ Status.Done → IfSome (F.files files.old) (λ told. (outcome : Outcome) × Owes (command_of words.now) told (Ok outcome)
         × Writes outcome (S.received out.old) (S.received out.new)) }
 

@@ -8,6 +8,7 @@ use pgq_base::Text;
 pub(crate) enum Command<'a> {
     Translate(&'a str, &'a str),
     Check(&'a str),
+    CheckQuery(&'a str, &'a str),
 }
 
 /// The command of the words; None where they have another form.
@@ -18,6 +19,9 @@ pub(crate) fn read_words(words: &[Text]) -> Option<Command<'_>>
     match words {
         [command, schema, query] if command.as_text() == "translate" => {
             Some(Command::Translate(schema.as_text(), query.as_text()))
+        }
+        [command, schema, query] if command.as_text() == "check" => {
+            Some(Command::CheckQuery(schema.as_text(), query.as_text()))
         }
         [command, schema] if command.as_text() == "check" => Some(Command::Check(schema.as_text())),
         _ => None,

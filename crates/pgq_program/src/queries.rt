@@ -1,0 +1,46 @@
+ghost use Rattle.std.specs.Prelude.{◌≡◌, ◌≤◌, length, IfErr};
+ghost use Rattle.sql_lexer.specs.Spans.{RefusalLiesIn};
+ghost use Rattle.pgq_program.specs.Queries.{not_served, IsJudged, IsQueryRead};
+ghost use Rattle.pgq_program.specs.Texts.{GivesDue};
+
+use graph_ast::{Catalog, CheckedQuery, QueryTree};
+use pattern_check::{check_query, is_served};
+use pattern_parser::parse_query;
+use pgq_base::{Code, Detail, Refusal, Role, Span, Stop};
+use sql_lexer::lex;
+use std::alloc::Global;
+
+fn not_served() -> Refusal
+    ensures { result ≡ not_served }
+{
+    Refusal {
+        role: Role::Query,
+        span: Span { from: 0, to: 0 },
+        code: Code::Unexpected,
+        detail: Detail::Nothing,
+    }
+}
+
+fn judge(alloc: Global, catalog: &Catalog, tree: &QueryTree) -> Result<CheckedQuery, Stop>
+    ensures { GivesDue (IsJudged catalog.now tree.now) result }
+{
+    if !is_served(tree) {
+        return Err(Stop::Refused(not_served()));
+    }
+    check_query(alloc, catalog, tree)
+}
+
+/// The query that a query text that is not too large stands for in a catalog. A refusal names a part of the text.
+pub(crate) fn read_checked(
+    alloc: Global,
+    catalog: &Catalog,
+    text: &[u8],
+) -> Result<CheckedQuery, Stop>
+    requires { length text.now ≤ 1048576 }
+    ensures due { GivesDue (IsQueryRead catalog.now text.now) result }
+    ensures in_text { IfErr result (RefusalLiesIn (length text.now)) }
+{
+    let tokens = lex(alloc, text, Role::Query)?;
+    let tree = parse_query(alloc, tokens.as_slice(), text.len() as u32)?;
+    judge(alloc, catalog, &tree)
+}
