@@ -21,6 +21,8 @@ pub use texts::translate_texts;
 pub use top::pgq;
 
 #[cfg(test)]
+mod query_tests;
+#[cfg(test)]
 mod schema_tests;
 #[cfg(test)]
 mod tests;

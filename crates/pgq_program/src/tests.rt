@@ -9,7 +9,7 @@ use std::alloc::Global;
 use std::process::Abort;
 use std::test::Fail;
 
-const SCHEMA: &str = "CREATE TABLE person (id INTEGER PRIMARY KEY, name VARCHAR(20), age INTEGER);
+pub(crate) const SCHEMA: &str = "CREATE TABLE person (id INTEGER PRIMARY KEY, name VARCHAR(20), age INTEGER);
 CREATE TABLE knows (id INTEGER PRIMARY KEY, a INTEGER REFERENCES person (id),
   b INTEGER REFERENCES person (id), since INTEGER);
 CREATE PROPERTY GRAPH g VERTEX TABLES (person)
@@ -80,9 +80,9 @@ pub(crate) const SOUND: Outside = Outside {
 // What a run is to answer.
 #[derive(Clone, Copy)]
 pub(crate) struct Wanted<'a> {
-    status: Status,
-    out: &'a [u8],
-    err: &'a [u8],
+    pub(crate) status: Status,
+    pub(crate) out: &'a [u8],
+    pub(crate) err: &'a [u8],
 }
 
 pub(crate) fn refused(line: &str) -> Wanted<'_> {
