@@ -146,19 +146,22 @@ module _ {L : Type 0} (leaf : L → Class) where
       let rest = both_parts (is_filled (map spelled (map bare es))) (list_all (λ b. b) (map spelled (map bare es))) all.1 in
       node_kept (a ∷ es) (is_filled (classes_of es) && list_all (same_class (judged leaf a.0).class) (classes_of es)) classes_differ spans h
       (both_true (spelled a.0) (list_all (λ b. b) (map spelled (map bare es))) all.0 rest.1)
-      (λ none. both_true (is_filled (classes_of es)) (list_all (same_class (judged leaf a.0).class) (classes_of es)) (sym (filled es) ∙ rest.0) (differing_kept a es (drop 1 spans) none))
+      (λ none. both_true (is_filled (classes_of es)) (list_all (same_class (judged leaf a.0).class) (classes_of es)) (sym (filled es) ∙ rest.0) (differing_kept a es
+      (drop 1 spans) none))
   layer (Expr-F.Between a b c n) spans h s =
       let all = both_parts (spelled a.0) (spelled b.0 && spelled c.0) s in
       let rest = both_parts (spelled b.0) (spelled c.0) all.1 in
       node_kept (a ∷ b ∷ c ∷ []) (same_class (judged leaf a.0).class (judged leaf b.0).class && same_class (judged leaf a.0).class (judged leaf c.0).class) classes_differ spans h
       (both_true (spelled a.0) (spelled b.0 && (spelled c.0 && true)) all.0 (both_true (spelled b.0) (spelled c.0 && true) rest.0 (one_spelled c rest.1)))
       (λ none.
-      let two = both_parts (same_class (judged leaf a.0).class (judged leaf b.0).class) (same_class (judged leaf a.0).class (judged leaf c.0).class && true) (differing_kept a (b ∷ c ∷ []) (drop 1 spans) none) in
+      let two = both_parts (same_class (judged leaf a.0).class (judged leaf b.0).class) (same_class (judged leaf a.0).class (judged leaf c.0).class && true) (differing_kept a
+      (b ∷ c ∷ []) (drop 1 spans) none) in
       both_true (same_class (judged leaf a.0).class (judged leaf b.0).class) (same_class (judged leaf a.0).class (judged leaf c.0).class) two.0 (first_of_two _ two.1))
   layer (Expr-F.Coalesce []) spans h s = s
   layer (Expr-F.Coalesce (e ∷ es)) spans h s =
       node_kept (e ∷ es) (same_class (judged leaf e.0).class (judged leaf e.0).class && list_all (same_class (judged leaf e.0).class) (classes_of es)) classes_differ spans h s
-      (λ none. both_true (same_class (judged leaf e.0).class (judged leaf e.0).class) (list_all (same_class (judged leaf e.0).class) (classes_of es)) (same_self (judged leaf e.0).class) (differing_kept e es (drop 1 spans) none))
+      (λ none. both_true (same_class (judged leaf e.0).class (judged leaf e.0).class) (list_all (same_class (judged leaf e.0).class) (classes_of es)) (same_self
+      (judged leaf e.0).class) (differing_kept e es (drop 1 spans) none))
 
   pub told : (e : Expr L) → Told e
   told = ind-Expr L Told (λ x y is spans h s.

@@ -66,18 +66,21 @@ module _ (catalog : Catalog) (graph : Graph) (Q : Leafed → Type 0) where
       let two = parts Meets (C factor) (row_conditions (map C row)) h in
       let own = all.0 two.0 in
       let more = row_has row all.1 two.1 in (
-        subst (AllByRecursion Q) (sym (flat_map-append conditions_in (S factor).steps (splice (map S row)).steps)) (together Q (along (S factor).steps) (along (splice (map S row)).steps) own.0 more.0),
+        subst (AllByRecursion Q) (sym (flat_map-append conditions_in (S factor).steps (splice (map S row)).steps)) (together Q (along (S factor).steps) (along (splice
+            (map S row)).steps) own.0 more.0),
         together Q (S factor).conditions (splice (map S row)).conditions own.1 more.1,
       )
 
   joined_has : (xs ys : List Spliced) → HasAll (splice xs) → HasAll (splice ys) → HasAll (splice (xs ++ ys))
   joined_has xs ys a b = (
     subst (λ l. AllByRecursion Q (along l)) (sym (flat_map-append (λ (own : Spliced). own.steps) xs ys))
-        (subst (AllByRecursion Q) (sym (flat_map-append conditions_in (splice xs).steps (splice ys).steps)) (together Q (along (splice xs).steps) (along (splice ys).steps) a.0 b.0)),
+        (subst (AllByRecursion Q) (sym (flat_map-append conditions_in (splice xs).steps (splice ys).steps)) (together Q (along (splice xs).steps) (along
+        (splice ys).steps) a.0 b.0)),
     subst (AllByRecursion Q) (sym (flat_map-append (λ (own : Spliced). own.conditions) xs ys)) (together Q (splice xs).conditions (splice ys).conditions a.1 b.1),
   )
 
-  rows_have : (rows : List (List Factor)) → Each P rows → AllMeet (flat_map row_conditions (map (map C) rows)) → HasAll (splice (flat_map (λ (row : List Spliced). row) (map (map S) rows)))
+  rows_have : (rows : List (List Factor)) → Each P rows → AllMeet (flat_map row_conditions (map (map C) rows)) → HasAll (splice (flat_map (λ (row : List Spliced). row) (map
+      (map S) rows)))
   rows_have [] all h = (tt, tt)
   rows_have (row ∷ rows) all h =
       let two = parts Meets (row_conditions (map C row)) (flat_map row_conditions (map (map C) rows)) h in
@@ -123,7 +126,8 @@ module _ (catalog : Catalog) (graph : Graph) (Q : Leafed → Type 0) where
   abbrev of_operand : Operand → List Leafed
   of_operand operand = along operand.steps ++ operand.conditions
 
-  operands_have : (rows : List (List Factor)) → Each P rows → AllMeet (flat_map row_conditions (map (map C) rows)) → AllByRecursion Q (flat_map of_operand (map splice (map (map S) rows)))
+  operands_have : (rows : List (List Factor)) → Each P rows → AllMeet (flat_map row_conditions (map (map C) rows)) → AllByRecursion Q (flat_map of_operand (map splice (map
+      (map S) rows)))
   operands_have [] all h = tt
   operands_have (row ∷ rows) all h =
       let two = parts Meets (row_conditions (map C row)) (flat_map row_conditions (map (map C) rows)) h in
@@ -143,7 +147,8 @@ module _ (catalog : Catalog) (graph : Graph) (Q : Leafed → Type 0) where
   paths_have [] h = tt
   paths_have (path ∷ paths) h =
       let two = parts Meets (path_conditions path) (flat_map path_conditions paths) h in
-      together Q (flat_map of_operand (checked_path catalog graph path).operands) (flat_map (λ (path : CheckedPath). flat_map of_operand path.operands) (map (checked_path catalog graph) paths))
+      together Q (flat_map of_operand (checked_path catalog graph path).operands) (flat_map (λ (path : CheckedPath). flat_map of_operand path.operands) (map
+      (checked_path catalog graph) paths))
       (path_has path two.0) (paths_have paths two.1)
 
   last_has : (condition : Option Condition) → AllMeet (option_to_list condition) → AllByRecursion Q (option_to_list (option_map (checked_condition catalog graph) condition))
@@ -185,13 +190,15 @@ module _ (R : PropertyRef → Type 0) where
   condition_used around None h = tt
   condition_used around (Some condition) h = (leaves_used around (leaves_in condition.tree) (subst (AllByRecursion OfUse) (append-nil (uses_in around condition)) h), tt)
 
-  row_used : (row : List Factor) → AllByRecursion PU row → (around : Around) → AllByRecursion OfUse (flat_map (λ (factor : Uses). factor.uses around) (map U row)) → AllLeaves (row_conditions (map C row))
+  row_used : (row : List Factor) → AllByRecursion PU row → (around : Around) → AllByRecursion OfUse (flat_map (λ (factor : Uses). factor.uses around) (map U row)) → AllLeaves
+      (row_conditions (map C row))
   row_used [] all around h = tt
   row_used (factor ∷ row) all around h =
       let two = parts OfUse ((U factor).uses around) (flat_map (λ (factor : Uses). factor.uses around) (map U row)) h in
       together Leaves (C factor) (row_conditions (map C row)) (all.0 around two.0) (row_used row all.1 around two.1)
 
-  rows_used : (rows : List (List Factor)) → Each PU rows → (around : Around) → AllByRecursion OfUse (flat_map (flat_map (λ (factor : Uses). factor.uses around)) (map (map U) rows)) →
+  rows_used : (rows : List (List Factor)) → Each PU rows → (around : Around) → AllByRecursion OfUse (flat_map (flat_map (λ (factor : Uses). factor.uses around)) (map
+      (map U) rows)) →
       AllLeaves (flat_map row_conditions (map (map C) rows))
   rows_used [] all around h = tt
   rows_used (row ∷ rows) all around h =
@@ -206,18 +213,21 @@ module _ (R : PropertyRef → Type 0) where
   edge_used : (direction : Direction) (filler : Filler) (quantifier : Option Quantifier) → PU (v.Edge direction filler quantifier)
   edge_used direction filler quantifier around h =
       subst AllLeaves (sym (given_edge conditions direction filler quantifier))
-      (condition_used (around_inside quantifier (names_in filler) around) filler.condition (subst (λ (own : Uses). AllByRecursion OfUse (own.uses around)) (given_edge using direction filler quantifier) h))
+      (condition_used (around_inside quantifier (names_in filler) around) filler.condition (subst (λ (own : Uses). AllByRecursion OfUse (own.uses around))
+      (given_edge using direction filler quantifier) h))
 
   part_used : (part : PartTree) (quantifier : Option Quantifier) → Each PU (rows_of part) → PU (v.Part part quantifier)
   part_used part quantifier all around h =
       let given : Part Uses = part_given using part in
       let own : Part (List Condition) = part_given conditions part in
       let inner : Around = around_inside quantifier (body_variables given.body) around in
-      let two = parts OfUse (body_uses given.body inner) (uses_in_any inner given.condition) (subst (λ (own : Uses). AllByRecursion OfUse (own.uses around)) (given_part using part quantifier) h) in
+      let two = parts OfUse (body_uses given.body inner) (uses_in_any inner given.condition) (subst (λ (own : Uses). AllByRecursion OfUse (own.uses around))
+      (given_part using part quantifier) h) in
       subst AllLeaves (sym (given_part conditions part quantifier))
       (together Leaves (body_conditions own.body) (option_to_list own.condition)
       (subst (λ (rows : List (List (List Condition))). AllLeaves (flat_map row_conditions rows)) (sym (part_operands conditions part))
-      (rows_used (rows_of part) all inner (subst (λ (rows : List (List Uses)). AllByRecursion OfUse (flat_map (flat_map (λ (factor : Uses). factor.uses inner)) rows)) (part_operands using part) two.0)))
+      (rows_used (rows_of part) all inner (subst (λ (rows : List (List Uses)). AllByRecursion OfUse (flat_map (flat_map (λ (factor : Uses). factor.uses inner)) rows))
+      (part_operands using part) two.0)))
       (condition_used inner own.condition (subst (λ c. AllByRecursion OfUse (uses_in_any inner c)) (sym (condition_inside using part) ∙ condition_inside conditions part) two.1)))
 
   path_used : (path : PathTree) → AllByRecursion OfUse (path_uses path) → AllLeaves (path_conditions path)
@@ -233,7 +243,8 @@ module _ (R : PropertyRef → Type 0) where
       let two = parts OfUse (path_uses path) (flat_map path_uses paths) h in
       together Leaves (path_conditions path) (flat_map path_conditions paths) (path_used path two.0) (paths_used paths two.1)
 
-  columns_used : (columns : List Item) → AllByRecursion OfUse (flat_map (λ (item : Item). uses_in nothing_around item.value) columns) → AllByRecursion (λ (item : Item). Leaves item.value) columns
+  columns_used : (columns : List Item) → AllByRecursion OfUse (flat_map (λ (item : Item). uses_in nothing_around item.value) columns) → AllByRecursion (λ
+      (item : Item). Leaves item.value) columns
   columns_used [] h = tt
   columns_used (item ∷ columns) h =
       let two = parts OfUse (uses_in nothing_around item.value) (flat_map (λ (item : Item). uses_in nothing_around item.value) columns) h in
@@ -243,6 +254,10 @@ module _ (R : PropertyRef → Type 0) where
   pub leaves_of_uses : (tree : QueryTree) → AllByRecursion OfUse (uses tree) → AllLeaves (wheres tree) × AllByRecursion (λ (item : Item). Leaves item.value) tree.columns
   unfolding uses wheres
   leaves_of_uses tree h =
-      let one = parts OfUse (flat_map path_uses tree.paths ++ uses_in_any nothing_around tree.condition) (flat_map (λ (item : Item). uses_in nothing_around item.value) tree.columns) h in
-      let two = parts OfUse (flat_map path_uses tree.paths) (uses_in_any nothing_around tree.condition) one.0 in
-      (together Leaves (flat_map path_conditions tree.paths) (option_to_list tree.condition) (paths_used tree.paths two.0) (condition_used nothing_around tree.condition two.1), columns_used tree.columns one.1)
+      let one = parts OfUse (flat_map path_uses tree.paths ++ uses_in_any nothing_around tree.condition) (flat_map (λ
+      (item : Item). uses_in nothing_around item.value) tree.columns) h in
+      let two = parts OfUse (flat_map path_uses tree.paths) (uses_in_any nothing_around tree.condition) one.0 in (
+        together Leaves (flat_map path_conditions tree.paths) (option_to_list tree.condition) (paths_used tree.paths two.0)
+            (condition_used nothing_around tree.condition two.1),
+        columns_used tree.columns one.1,
+      )

@@ -85,9 +85,11 @@ module _ (catalog : Catalog) (graph : Graph) where
   rows_kinds [] all place = refl
   rows_kinds (row ∷ rows) all place =
       ap kinds_along (flat_map-append (λ (own : Spliced). own.steps) (map S row) (flat_map (λ (row : List Spliced). row) (map (map S) rows)))
-      ∙ flat_map-append kinds_at (flat_map (λ (own : Spliced). own.steps) (map S row)) (flat_map (λ (own : Spliced). own.steps) (flat_map (λ (row : List Spliced). row) (map (map S) rows)))
+      ∙ flat_map-append kinds_at (flat_map (λ (own : Spliced). own.steps) (map S row)) (flat_map (λ (own : Spliced). own.steps) (flat_map (λ (row : List Spliced). row) (map
+      (map S) rows)))
       ∙ ap₂ (λ a b. a ++ b) (row_kinds row all.0 place) (rows_kinds rows all.1 place)
-      ∙ sym (map-append key (flat_map (λ (declared : Place → List Declaration). declared place) (map D row)) (flat_map (flat_map (λ (declared : Place → List Declaration). declared place)) (map (map D) rows)))
+      ∙ sym (map-append key (flat_map (λ (declared : Place → List Declaration). declared place) (map D row)) (flat_map (flat_map (λ (declared : Place →
+      List Declaration). declared place)) (map (map D) rows)))
 
   -- a quantifier changes nothing of it
   quantified_kinds : (quantifier : Option Quantifier) (inside : Spliced) → kinds_along (quantified quantifier inside).steps ≡ kinds_along inside.steps
@@ -117,9 +119,11 @@ module _ (catalog : Catalog) (graph : Graph) where
       ap (λ (own : Spliced). kinds_along own.steps) (given_part (splicing catalog graph) part quantifier)
       ∙ quantified_kinds quantifier (part_spliced catalog graph given)
       ∙ ap kinds_along (append-nil (body_spliced given.body).steps)
-      ∙ ap (λ (rows : List (List Spliced)). kinds_along (flat_map (λ (own : Spliced). own.steps) (flat_map (λ (row : List Spliced). row) rows))) (part_operands (splicing catalog graph) part)
+      ∙ ap (λ (rows : List (List Spliced)). kinds_along (flat_map (λ (own : Spliced). own.steps) (flat_map (λ (row : List Spliced). row) rows))) (part_operands
+      (splicing catalog graph) part)
       ∙ rows_kinds (rows_of part) all (place_inside quantifier place)
-      ∙ sym (ap (λ (rows : List (List (Place → List Declaration))). map key (flat_map (flat_map (λ (declared : Place → List Declaration). declared (place_inside quantifier place))) rows)) (part_operands declaring part))
+      ∙ sym (ap (λ (rows : List (List (Place → List Declaration))). map key (flat_map (flat_map (λ (declared : Place → List Declaration). declared
+      (place_inside quantifier place))) rows)) (part_operands declaring part))
       ∙ sym (ap (λ (d : Place → List Declaration). map key (d place)) (given_part declaring part quantifier))
 
   -- ---- path patterns
@@ -134,11 +138,13 @@ module _ (catalog : Catalog) (graph : Graph) where
       ∙ sym (map-append key (flat_map (λ (declared : Place → List Declaration). declared place) (map D row))
       (flat_map (λ (operand : List Declaration). operand) (map (operand_declares path) (enumerate_from (n + 1) (map (map D) rows)))))
 
-  path_kinds : (n : ℕ) (path : PathTree) → flat_map (λ (operand : Operand). kinds_along operand.steps) (checked_path catalog graph path).operands ≡ map key (path_declares (n, path))
+  path_kinds : (n : ℕ) (path : PathTree) → flat_map (λ (operand : Operand). kinds_along operand.steps) (checked_path catalog graph path).operands ≡ map key (path_declares
+      (n, path))
   path_kinds n path =
       ap (λ (rows : List (List Spliced)). flat_map (λ (operand : Operand). kinds_along operand.steps) (map splice rows)) (operands_given (splicing catalog graph) path.body)
       ∙ operands_kinds n 0 (rows_in path.body) (each_union P of_vertex of_edge of_part (rows_in path.body))
-      ∙ sym (ap (λ (rows : List (List (Place → List Declaration))). map key (flat_map (λ (operand : List Declaration). operand) (map (operand_declares n) (enumerate_from 0 rows)))) (operands_given declaring path.body))
+      ∙ sym (ap (λ (rows : List (List (Place → List Declaration))). map key (flat_map (λ (operand : List Declaration). operand) (map (operand_declares n)
+      (enumerate_from 0 rows)))) (operands_given declaring path.body))
 
   paths_kinds : (n : ℕ) (paths : List PathTree) →
       flat_map (λ (path : CheckedPath). flat_map (λ (operand : Operand). kinds_along operand.steps) path.operands) (map (checked_path catalog graph) paths) ≡
@@ -180,7 +186,8 @@ bytes_turned a b h = sym (nat_list_eq_equiv.symm a b) ∙ h
 abbrev PairsAgree : List Declaration → Type 0
 PairsAgree ds = (a b : Declaration) → IsIn a ds → IsIn b ds → Agree (key a) (key b)
 
-earlier_agrees : (before : List Declaration) (later : Declaration) → variable_kind before later ≡ [] → (earlier : Declaration) → IsIn earlier before → Agree (key earlier) (key later)
+earlier_agrees : (before : List Declaration) (later : Declaration) → variable_kind before later ≡ [] → (earlier : Declaration) → IsIn earlier before → Agree (key earlier)
+    (key later)
 earlier_agrees before later h earlier there same =
     let test : Declaration → Bool = λ (own : Declaration). declares later.variable.name own && not (same_kind own.kind later.kind) in
     same_kind_is earlier.kind later.kind

@@ -53,7 +53,8 @@ found_some {X} p (x ∷ xs) h = go (p x) (found_some p xs) h
 
 any_left : (p : Element → Bool) (graph : Graph) (kind : Kind) → list_any p (elements_of_kind graph kind) ≡ true → list_any p (elements_of graph) ≡ true
 any_left p graph vertices h =
-    list_any_append p graph.vertices (map (λ (edge : EdgeElement). edge.element) graph.edges) ∙ ap (λ b. b || list_any p (map (λ (edge : EdgeElement). edge.element) graph.edges)) h
+    list_any_append p graph.vertices (map (λ (edge : EdgeElement). edge.element) graph.edges) ∙ ap (λ b. b || list_any p (map (λ
+    (edge : EdgeElement). edge.element) graph.edges)) h
 any_left p graph edges h =
     list_any_append p graph.vertices (map (λ (edge : EdgeElement). edge.element) graph.edges) ∙ ap (λ b. list_any p graph.vertices || b) h ∙ or_true (list_any p graph.vertices)
   where
@@ -91,7 +92,8 @@ uses_good graph all (own ∷ used) plain variables properties =
         declared = declared;
         known = property_known graph all own.leaf declared (left_none (unknown_property graph all own.leaf) more_properties properties);
       },
-      uses_good graph all used plain.1 (right_none (variable_faults all own.around own.leaf.variable) more_variables variables) (right_none (unknown_property graph all own.leaf) more_properties properties),
+      uses_good graph all used plain.1 (right_none (variable_faults all own.around own.leaf.variable) more_variables variables) (right_none
+          (unknown_property graph all own.leaf) more_properties properties),
     )
 
 -- ---- expressions
@@ -128,7 +130,8 @@ module _ (catalog : Catalog) (query : CheckedQuery) (all : List Declaration) (ki
   leaves_sound : (ls : List PropertyRef) → AllByRecursion Good ls → AllByRecursion (IsSoundLeaf catalog query) (flat_map (λ leaf. leaves_in (made leaf)) ls)
   leaves_sound [] good = tt
   leaves_sound (leaf ∷ ls) good =
-      subst (λ (own : List PropertyLeaf). AllByRecursion (IsSoundLeaf catalog query) (own ++ flat_map (λ leaf. leaves_in (made leaf)) ls)) (sym (leaves.leaf (leaf_for catalog graph leaf)))
+      subst (λ (own : List PropertyLeaf). AllByRecursion (IsSoundLeaf catalog query) (own ++ flat_map (λ leaf. leaves_in (made leaf)) ls)) (sym (leaves.leaf
+      (leaf_for catalog graph leaf)))
       (sound_leaf leaf good.0, leaves_sound ls good.1)
 
   class_of_made : (leaf : PropertyRef) → Good leaf → class_in class_is (made leaf) ≡ own_class leaf
@@ -150,8 +153,10 @@ module _ (catalog : Catalog) (query : CheckedQuery) (all : List Declaration) (ki
   sound_condition condition good none spelled =
       let class : Class = (typed own_class condition.tree).class in
       let own : List Fault = not_truth (record { class = class; span = own_span condition.spans }) in
-      let truth : Truth ≡ class = same_from Truth class (kept_when (same_class Truth class) code.NotTruth (own_span condition.spans) (left_none own (condition_faults own_class condition) none)) in record {
+      let truth : Truth ≡ class = same_from Truth class (kept_when (same_class Truth class) code.NotTruth (own_span condition.spans) (left_none own
+      (condition_faults own_class condition) none)) in record {
         sound = sound_expression condition good (right_none own (condition_faults own_class condition) none) spelled;
-        truth = mapped_class own_class class_is made condition.tree (each_implies Good (λ leaf. class_in class_is (made leaf) ≡ own_class leaf) class_of_made (leaves_in condition.tree) good)
+        truth = mapped_class own_class class_is made condition.tree (each_implies Good (λ leaf. class_in class_is (made leaf) ≡ own_class leaf) class_of_made
+            (leaves_in condition.tree) good)
             ∙ sym (typed_class own_class condition.tree) ∙ sym truth;
       }

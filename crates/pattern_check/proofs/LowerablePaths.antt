@@ -154,7 +154,8 @@ no_longer count upper edges rest bound a b = grind (arith, mul_le count upper ed
 between_upper : (lower upper count : ℕ) → IsIn count (numbers_between lower upper) → count ≤ upper
 between_upper lower upper count h = let r = from_range lower (suc upper - lower) count h in omega (arith, r.0, r.1)
 
-at_most_most : (steps : List Step) (counts : List ℕ) → IsIn counts (counts_of steps) → edges_in (flat_map (λ (own : Iteration). own.pieces) (iterations steps counts)) ≤ most steps
+at_most_most : (steps : List Step) (counts : List ℕ) → IsIn counts (counts_of steps) → edges_in (flat_map (λ (own : Iteration). own.pieces)
+    (iterations steps counts)) ≤ most steps
 at_most_most [] counts h = omega arith
 at_most_most (step.One own ∷ steps) counts h =
     let more = at_most_most steps counts h in
@@ -165,13 +166,16 @@ at_most_most (step.Part lower upper pieces conditions ∷ steps) counts h =
     let two = from_map (λ counts. one.0 ∷ counts) counts (counts_of steps) one.2 in
     let part : Iteration = record { pieces = pieces; conditions = conditions } in
     let rest : List Iteration = iterations steps two.0 in
-    let apart : edges_in (flat_map (λ (own : Iteration). own.pieces) (replicate one.0 part ++ rest)) ≡ one.0 * edges_in pieces + edges_in (flat_map (λ (own : Iteration). own.pieces) rest) =
+    let apart : edges_in (flat_map (λ (own : Iteration). own.pieces) (replicate one.0 part ++ rest)) ≡ one.0 * edges_in pieces + edges_in (flat_map (λ
+    (own : Iteration). own.pieces) rest) =
     ap edges_in (flat_map-append (λ (own : Iteration). own.pieces) (replicate one.0 part) rest)
     ∙ edges_together (flat_map (λ (own : Iteration). own.pieces) (replicate one.0 part)) (flat_map (λ (own : Iteration). own.pieces) rest)
     ∙ ap (λ n. n + edges_in (flat_map (λ (own : Iteration). own.pieces) rest)) (often one.0 part) in
-    subst (λ (c : List ℕ). edges_in (flat_map (λ (own : Iteration). own.pieces) (iterations (step.Part lower upper pieces conditions ∷ steps) c)) ≤ most (step.Part lower upper pieces conditions ∷ steps)) two.2
+    subst (λ (c : List ℕ). edges_in (flat_map (λ (own : Iteration). own.pieces) (iterations (step.Part lower upper pieces conditions ∷ steps) c)) ≤ most
+    (step.Part lower upper pieces conditions ∷ steps)) two.2
     (subst (λ n. n ≤ upper * edges_in pieces + most steps) (sym apart)
-    (no_longer one.0 upper (edges_in pieces) (edges_in (flat_map (λ (own : Iteration). own.pieces) rest)) (most steps) (between_upper lower upper one.0 one.1) (at_most_most steps two.0 two.1)))
+    (no_longer one.0 upper (edges_in pieces) (edges_in (flat_map (λ (own : Iteration). own.pieces) rest)) (most steps) (between_upper lower upper one.0 one.1)
+    (at_most_most steps two.0 two.1)))
 
 -- ---- quantifiers
 
@@ -197,10 +201,12 @@ plainly inside quantifier h = by quantifier.kind refl
     two = unbounded_quantifier quantifier ++ optional_part quantifier
 
     unbounded : unbounded_quantifier quantifier ≡ []
-    unbounded = left_none (unbounded_quantifier quantifier) (optional_part quantifier) (left_none two (nested_part inside quantifier) (left_none three (quantifier_order quantifier) h))
+    unbounded = left_none (unbounded_quantifier quantifier) (optional_part quantifier) (left_none two (nested_part inside quantifier) (left_none three
+        (quantifier_order quantifier) h))
 
     optional : optional_part quantifier ≡ []
-    optional = right_none (unbounded_quantifier quantifier) (optional_part quantifier) (left_none two (nested_part inside quantifier) (left_none three (quantifier_order quantifier) h))
+    optional = right_none (unbounded_quantifier quantifier) (optional_part quantifier) (left_none two (nested_part inside quantifier) (left_none three
+        (quantifier_order quantifier) h))
 
     nested : nested_part inside quantifier ≡ []
     nested = right_none two (nested_part inside quantifier) (left_none three (quantifier_order quantifier) h)
@@ -251,7 +257,8 @@ module _ (catalog : Catalog) (graph : Graph) where
       ones_together (S factor).steps (splice (map S row)).steps (all.0 (left_none ((F factor).faults true) (row_faults true (map F row)) h))
       (row_ones row all.1 (right_none ((F factor).faults true) (row_faults true (map F row)) h))
 
-  rows_ones : (rows : List (List Factor)) → Each PO rows → flat_map (row_faults true) (map (map F) rows) ≡ [] → AreOnes (splice (flat_map (λ (row : List Spliced). row) (map (map S) rows))).steps
+  rows_ones : (rows : List (List Factor)) → Each PO rows → flat_map (row_faults true) (map (map F) rows) ≡ [] → AreOnes (splice (flat_map (λ (row : List Spliced). row) (map
+      (map S) rows))).steps
   rows_ones [] all h = tt
   rows_ones (row ∷ rows) all h =
       let first : List Spliced = map S row in
@@ -272,7 +279,8 @@ module _ (catalog : Catalog) (graph : Graph) where
   edge_ones direction filler quantifier h =
       subst (λ (own : Spliced). AreOnes own.steps) (sym (given_edge (splicing catalog graph) direction filler quantifier))
       (none_inside quantifier (element catalog graph (piece.Edge direction (pattern_for filler)) filler)
-      (right_none (undirected_edge direction filler) (quantifier_faults true quantifier) (sym (ap (λ (form : Form). form.faults true) (given_edge forms direction filler quantifier)) ∙ h)) tt)
+      (right_none (undirected_edge direction filler) (quantifier_faults true quantifier) (sym (ap (λ (form : Form). form.faults true)
+      (given_edge forms direction filler quantifier)) ∙ h)) tt)
 
   -- the faults of a part: at its quantifier, at its joints and inside
   pub record AtPart (inside : Bool) (part : Part Form) (quantifier : Option Quantifier) : Type 0 where
@@ -292,14 +300,16 @@ module _ (catalog : Catalog) (graph : Graph) where
         within = right_none (own_faults inside part quantifier) (body_faults (inside || is_repeated quantifier) part.body) h;
       }
 
-  no_faults_at : (inside : Bool) (part : PartTree) (quantifier : Option Quantifier) → (F (v.Part part quantifier)).faults inside ≡ [] → AtPart inside (part_given forms part) quantifier
+  no_faults_at : (inside : Bool) (part : PartTree) (quantifier : Option Quantifier) → (F (v.Part part quantifier)).faults inside ≡ [] → AtPart inside
+      (part_given forms part) quantifier
   no_faults_at inside part quantifier h =
       at_part inside (part_given forms part) quantifier (sym (ap (λ (form : Form). form.faults inside) (given_part forms part quantifier)) ∙ h)
 
   inside_rows : (inside : Bool) (part : PartTree) → body_faults inside (part_given forms part).body ≡ [] → flat_map (row_faults inside) (map (map F) (rows_of part)) ≡ []
   inside_rows inside part h = sym (ap (flat_map (row_faults inside)) (part_operands forms part)) ∙ h
 
-  body_ones : (part : PartTree) → Each PO (rows_of part) → body_faults true (part_given forms part).body ≡ [] → AreOnes (body_spliced (part_given (splicing catalog graph) part).body).steps
+  body_ones : (part : PartTree) → Each PO (rows_of part) → body_faults true (part_given forms part).body ≡ [] → AreOnes (body_spliced (part_given
+      (splicing catalog graph) part).body).steps
   body_ones part all h =
       subst (λ (rows : List (List Spliced)). AreOnes (splice (flat_map (λ (row : List Spliced). row) rows)).steps) (sym (part_operands (splicing catalog graph) part))
       (rows_ones (rows_of part) all (inside_rows true part h))
@@ -334,7 +344,8 @@ module _ (catalog : Catalog) (graph : Graph) where
       let own = all.0 inside (left_none ((F factor).faults inside) (row_faults inside (map F row)) h) two.0 in
       let more = row_measured row all.1 inside (right_none ((F factor).faults inside) (row_faults inside (map F row)) h) two.1 in record {
         choices = many_together (S factor).steps (splice (map S row)).steps ∙ ap₂ (λ a b. a * b) own.choices more.choices;
-        edges = most_together (S factor).steps (splice (map S row)).steps ∙ ap₂ (λ a b. a + b) own.edges more.edges ∙ sym (sum_by-cons (λ (own : Measure). own.edges) (M factor) (map M row));
+        edges = most_together (S factor).steps (splice (map S row)).steps ∙ ap₂ (λ a b. a + b) own.edges more.edges ∙ sym (sum_by-cons (λ (own : Measure). own.edges)
+            (M factor) (map M row));
       }
 
   one_of : (a : ℕ) → 1 * a ≡ a
@@ -368,14 +379,16 @@ module _ (catalog : Catalog) (graph : Graph) where
   vertex_measured : (filler : Filler) → PM (v.Vertex filler)
   vertex_measured filler inside h j =
       subst (λ (own : Spliced). IsMeasured own (M (v.Vertex filler))) (sym (given_vertex (splicing catalog graph) filler))
-      (subst (λ (measure : Measure). IsMeasured (element catalog graph (piece.Vertex (pattern_for filler)) filler) measure) (sym (given_vertex measuring filler)) (record { choices = refl; edges = refl }))
+      (subst (λ (measure : Measure). IsMeasured (element catalog graph (piece.Vertex (pattern_for filler)) filler) measure) (sym (given_vertex measuring filler))
+      (record { choices = refl; edges = refl }))
 
   edge_measured : (direction : Direction) (filler : Filler) (quantifier : Option Quantifier) → PM (v.Edge direction filler quantifier)
   edge_measured direction filler quantifier inside h j =
       let own : Spliced = element catalog graph (piece.Edge direction (pattern_for filler)) filler in
       let one : Measure = record { choices = 1; edges = 1 } in
       let at : quantifier_faults inside quantifier ≡ [] =
-      right_none (undirected_edge direction filler) (quantifier_faults inside quantifier) (sym (ap (λ (form : Form). form.faults inside) (given_edge forms direction filler quantifier)) ∙ h) in
+      right_none (undirected_edge direction filler) (quantifier_faults inside quantifier) (sym (ap (λ (form : Form). form.faults inside)
+      (given_edge forms direction filler quantifier)) ∙ h) in
       subst (λ (own : Spliced). IsMeasured own (M (v.Edge direction filler quantifier))) (sym (given_edge (splicing catalog graph) direction filler quantifier))
       (subst (λ (measure : Measure). IsMeasured (quantified quantifier own) measure) (sym (given_edge measuring direction filler quantifier))
       (quantified_measured inside quantifier own one at (λ repeated. tt) (record { choices = refl; edges = refl })))
@@ -423,7 +436,8 @@ module _ (catalog : Catalog) (graph : Graph) where
       let body : Body Bool = (part_given joining part).body in
       let two = both_parts (nat_eq (length body.operands) (suc (length body.joints))) (list_all (list_all (λ b. b)) body.operands) j in
       let joints : body.joints ≡ [] = same_joints part ∙ no_joints (part_given forms part).body.joints none in (
-        subst (λ (rows : List (List Bool)). nat_eq (length rows) 1 ≡ true) (part_operands joining part) (subst (λ (js : List Joint). nat_eq (length body.operands) (suc (length js)) ≡ true) joints two.0),
+        subst (λ (rows : List (List Bool)). nat_eq (length rows) 1 ≡ true) (part_operands joining part) (subst (λ (js : List Joint). nat_eq (length body.operands) (suc
+            (length js)) ≡ true) joints two.0),
         subst (λ (rows : List (List Bool)). list_all (list_all (λ b. b)) rows ≡ true) (part_operands joining part) two.1,
       )
 
@@ -433,13 +447,15 @@ module _ (catalog : Catalog) (graph : Graph) where
       let at = no_faults_at inside part quantifier h in
       let once = joined_once part at.at_joints (sym (given_part joining part quantifier) ∙ j) in
       let body : IsMeasured (body_spliced given.body) (body_measure (part_given measuring part).body) =
-      subst (λ (rows : List (List Spliced)). IsMeasured (splice (flat_map (λ (row : List Spliced). row) rows)) (body_measure (part_given measuring part).body)) (sym (part_operands (splicing catalog graph) part))
+      subst (λ (rows : List (List Spliced)). IsMeasured (splice (flat_map (λ (row : List Spliced). row) rows)) (body_measure (part_given measuring part).body)) (sym
+      (part_operands (splicing catalog graph) part))
       (subst (λ (rows : List (List Measure)). IsMeasured (rows_spliced (rows_of part)) (union_measure (map sequence_measure rows))) (sym (part_operands measuring part))
       (rows_measured (rows_of part) all (inside || is_repeated quantifier) (inside_rows (inside || is_repeated quantifier) part at.within) once.0 once.1)) in
       let own : IsMeasured (part_spliced catalog graph given) (body_measure (part_given measuring part).body) =
       record { choices = ap many (part_steps given) ∙ body.choices; edges = ap most (part_steps given) ∙ body.edges } in
       let ones : is_repeated quantifier ≡ true → AreOnes (part_spliced catalog graph given).steps =
-      λ repeated. subst AreOnes (sym (part_steps given)) (body_ones part (all_ones (rows_of part)) (subst (λ b. body_faults b (part_given forms part).body ≡ []) (or_true inside (is_repeated quantifier) repeated) at.within)) in
+      λ repeated. subst AreOnes (sym (part_steps given)) (body_ones part (all_ones (rows_of part)) (subst (λ b. body_faults b (part_given forms part).body ≡ [])
+      (or_true inside (is_repeated quantifier) repeated) at.within)) in
       subst (λ (own : Spliced). IsMeasured own (M (v.Part part quantifier))) (sym (given_part (splicing catalog graph) part quantifier))
       (subst (λ (measure : Measure). IsMeasured (quantified quantifier (part_spliced catalog graph given)) measure) (sym (given_part measuring part quantifier))
       (quantified_measured inside quantifier (part_spliced catalog graph given) (body_measure (part_given measuring part).body) at.at_quantifier ones own))
@@ -478,8 +494,10 @@ module _ (catalog : Catalog) (graph : Graph) where
       let rest : List Spliced = flat_map (λ (row : List Spliced). row) (map (map S) rows) in
       subst Bounded (sym (flat_map-append steps_of first rest))
       (together IsBounded (splice first).steps (splice rest).steps
-      (row_bounded row all.0 inside (left_none (row_faults inside (map F row)) (flat_map (row_faults inside) (map (map F) rows)) h) (left_none (joined (map B row)) (flat_map joined (map (map B) rows)) small))
-      (rows_bounded rows all.1 inside (right_none (row_faults inside (map F row)) (flat_map (row_faults inside) (map (map F) rows)) h) (right_none (joined (map B row)) (flat_map joined (map (map B) rows)) small)))
+      (row_bounded row all.0 inside (left_none (row_faults inside (map F row)) (flat_map (row_faults inside) (map (map F) rows)) h) (left_none (joined (map B row))
+      (flat_map joined (map (map B) rows)) small))
+      (rows_bounded rows all.1 inside (right_none (row_faults inside (map F row)) (flat_map (row_faults inside) (map (map F) rows)) h) (right_none (joined (map B row))
+      (flat_map joined (map (map B) rows)) small)))
 
   vertex_bounded : (filler : Filler) → PB (v.Vertex filler)
   vertex_bounded filler inside h small = subst (λ (own : Spliced). Bounded own.steps) (sym (given_vertex (splicing catalog graph) filler)) (tt, tt)
@@ -488,7 +506,8 @@ module _ (catalog : Catalog) (graph : Graph) where
   edge_bounded direction filler quantifier inside h small =
       subst (λ (own : Spliced). Bounded own.steps) (sym (given_edge (splicing catalog graph) direction filler quantifier))
       (quantified_bounded inside quantifier (element catalog graph (piece.Edge direction (pattern_for filler)) filler)
-      (right_none (undirected_edge direction filler) (quantifier_faults inside quantifier) (sym (ap (λ (form : Form). form.faults inside) (given_edge forms direction filler quantifier)) ∙ h))
+      (right_none (undirected_edge direction filler) (quantifier_faults inside quantifier) (sym (ap (λ (form : Form). form.faults inside)
+      (given_edge forms direction filler quantifier)) ∙ h))
       (sym (given_edge large direction filler quantifier) ∙ small) (tt, tt))
 
   part_bounded : (part : PartTree) (quantifier : Option Quantifier) → Each PB (rows_of part) → PB (v.Part part quantifier)
@@ -514,8 +533,10 @@ module _ (catalog : Catalog) (graph : Graph) where
       AllByRecursion (λ (operand : Operand). Bounded operand.steps) (of_rows rows)
   operands_bounded [] all h small = tt
   operands_bounded (row ∷ rows) all h small = (
-    row_bounded row all.0 false (left_none (row_faults false (map F row)) (flat_map (row_faults false) (map (map F) rows)) h) (left_none (joined (map B row)) (flat_map joined (map (map B) rows)) small),
-    operands_bounded rows all.1 (right_none (row_faults false (map F row)) (flat_map (row_faults false) (map (map F) rows)) h) (right_none (joined (map B row)) (flat_map joined (map (map B) rows)) small),
+    row_bounded row all.0 false (left_none (row_faults false (map F row)) (flat_map (row_faults false) (map (map F) rows)) h) (left_none (joined (map B row)) (flat_map joined
+        (map (map B) rows)) small),
+    operands_bounded rows all.1 (right_none (row_faults false (map F row)) (flat_map (row_faults false) (map (map F) rows)) h) (right_none (joined (map B row))
+        (flat_map joined (map (map B) rows)) small),
   )
 
   abbrev many_of : Operand → ℕ
@@ -604,9 +625,11 @@ short_path catalog graph path h small j =
     sym (ap (flat_map (row_faults false)) (operands_given forms path.body))
     ∙ right_none (flat_map multiset_union (body_given forms path.body).joints) (body_faults false (body_given forms path.body)) top in
     let inner : inner_faults (body_given large path.body) ≡ [] =
-    left_none (inner_faults (body_given large path.body)) (too_many_choices path) (left_none (inner_faults (body_given large path.body) ++ too_many_choices path) (path_too_long path) small) in
+    left_none (inner_faults (body_given large path.body)) (too_many_choices path) (left_none (inner_faults (body_given large path.body) ++ too_many_choices path)
+    (path_too_long path) small) in
     let choices_none : too_many_choices path ≡ [] =
-    right_none (inner_faults (body_given large path.body)) (too_many_choices path) (left_none (inner_faults (body_given large path.body) ++ too_many_choices path) (path_too_long path) small) in
+    right_none (inner_faults (body_given large path.body)) (too_many_choices path) (left_none (inner_faults (body_given large path.body) ++ too_many_choices path)
+    (path_too_long path) small) in
     let long_none : path_too_long path ≡ [] = right_none (inner_faults (body_given large path.body) ++ too_many_choices path) (path_too_long path) small in
     let limits_none : flat_map joined (map (map (given_by large)) rows) ≡ [] = sym (ap (flat_map joined) (operands_given large path.body)) ∙ inner in
     let once : list_all (list_all (λ b. b)) (map (map (given_by joining)) rows) ≡ true =
@@ -622,7 +645,8 @@ short_path catalog graph path h small j =
     ∙ operands_many catalog graph rows measured forms_none once
     ∙ ap (λ (m : Measure). m.choices) measure in record {
       bounded = subst (AllByRecursion (λ (operand : Operand). AllByRecursion IsBounded operand.steps)) (sym same)
-          (operands_bounded catalog graph rows (each_union (PB catalog graph) (vertex_bounded catalog graph) (edge_bounded catalog graph) (part_bounded catalog graph) rows) forms_none limits_none);
+          (operands_bounded catalog graph rows (each_union (PB catalog graph) (vertex_bounded catalog graph) (edge_bounded catalog graph)
+          (part_bounded catalog graph) rows) forms_none limits_none);
       few = subst (λ n. n ≤ 4096) (sym few) (at_most 4096 (path_measure path).choices (not_when (nat_lt 4096 (path_measure path).choices) _ _ choices_none));
       short = longest_at_most (checked_path catalog graph path) 64 (λ operand there.
           let inside : most operand.steps ≤ (path_measure path).edges =
@@ -631,3 +655,33 @@ short_path catalog graph path h small j =
           let most_allowed : (path_measure path).edges ≤ 64 = at_most 64 (path_measure path).edges (not_when (nat_lt 64 (path_measure path).edges) _ _ long_none) in
           omega (arith, inside, most_allowed));
     }
+
+-- ---- operands
+
+some_product : (a b : ℕ) → 1 ≤ a → 1 ≤ b → 1 ≤ a * b
+some_product zero b h g = absurd (omega (arith, h))
+some_product (suc a) b h g = let more = one_more a b in let some : b ≤ b + a * b = omega arith in omega (arith, more, some, g)
+
+many_some : (steps : List Step) → AllByRecursion IsBounded steps → 1 ≤ many steps
+many_some [] h = omega arith
+many_some (step.One own ∷ steps) h = many_some steps h.1
+many_some (step.Part lower upper pieces conditions ∷ steps) h =
+    let some : 1 ≤ suc upper - lower = omega (arith, h.0.0) in
+    subst (λ n. 1 ≤ n) (sym (many_part lower upper pieces conditions steps)) (some_product (suc upper - lower) (many steps) some (many_some steps h.1))
+
+operands_counted : (operands : List Operand) → AllByRecursion (λ (operand : Operand). AllByRecursion IsBounded operand.steps) operands →
+    length operands ≤ sum_by (λ (operand : Operand). many operand.steps) operands
+operands_counted [] h = omega arith
+operands_counted (operand ∷ operands) h =
+    let own = many_some operand.steps h.0 in
+    let more = operands_counted operands h.1 in
+    let sum = sum_by-cons (λ (operand : Operand). many operand.steps) operand operands in
+    omega (arith, own, more, sum)
+
+-- each operand has a choice
+pub few_operands : (path : CheckedPath) → IsShortPath path → length path.operands ≤ 4096
+few_operands path short =
+    let some = operands_counted path.operands short.bounded in
+    let all = many_choices path in
+    let few = short.few in
+    omega (arith, some, all, few)

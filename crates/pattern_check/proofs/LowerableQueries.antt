@@ -37,11 +37,11 @@ use Rattle.pattern_check.proofs.LowerableLeaves.{IsGood, uses_good, sound_condit
 
 -- ---- the phases
 
-then_first : (a b : Option Fault) → or_then a b ≡ None → a ≡ None
+pub then_first : (a b : Option Fault) → or_then a b ≡ None → a ≡ None
 then_first None b h = refl
 then_first (Some f) b h = cc
 
-then_later : (a b : Option Fault) → or_then a b ≡ None → b ≡ None
+pub then_later : (a b : Option Fault) → or_then a b ≡ None → b ≡ None
 then_later None b h = h
 then_later (Some f) b h = cc
 
@@ -75,16 +75,18 @@ clean catalog tree h =
 
 -- ---- the phase names
 
-known_place : (catalog : Catalog) (tree : QueryTree) (found : Option ℕ) → faults_by_graph catalog tree found ≡ [] → found ≡ Some (unwrap_or found 0)
+pub known_place : (catalog : Catalog) (tree : QueryTree) (found : Option ℕ) → faults_by_graph catalog tree found ≡ [] → found ≡ Some (unwrap_or found 0)
 known_place catalog tree None h = cc
 known_place catalog tree (Some place) h = refl
 
 no_graph : Graph
 no_graph = record { name = []; vertices = []; edges = [] }
 
-pub place_within : (catalog : Catalog) (tree : QueryTree) → faults_by_graph catalog tree (graph_place catalog tree.graph.name) ≡ [] → suc (place_of catalog tree) ≤ length catalog.graphs
+pub place_within : (catalog : Catalog) (tree : QueryTree) → faults_by_graph catalog tree (graph_place catalog tree.graph.name) ≡ [] → suc
+    (place_of catalog tree) ≤ length catalog.graphs
 place_within catalog tree h =
-    let within = position-Some (λ (graph : Graph). bytes_eq graph.name tree.graph.name) catalog.graphs (place_of catalog tree) no_graph (known_place catalog tree (graph_place catalog tree.graph.name) h) in
+    let within = position-Some (λ (graph : Graph). bytes_eq graph.name tree.graph.name) catalog.graphs (place_of catalog tree) no_graph (known_place catalog tree
+    (graph_place catalog tree.graph.name) h) in
     omega (arith, within.0)
 
 properties_known : (catalog : Catalog) (tree : QueryTree) (found : Option ℕ) → faults_by_graph catalog tree found ≡ [] →
@@ -129,16 +131,18 @@ no_fault_of : {X Y : Type 0} (f : X → Y) (o : Option X) → map f (option_to_l
 no_fault_of f None h = refl
 no_fault_of f (Some x) h = cc
 
-few_paths : (paths : List PathTree) → too_many_paths paths ≡ [] → length paths ≤ 8
+pub few_paths : (paths : List PathTree) → too_many_paths paths ≡ [] → length paths ≤ 8
 few_paths paths h = none_there paths 8 (no_fault_of (λ (ninth : PathTree). fault code.TooManyPaths ninth.span) (slice_get paths 8) h)
 
-paths_short : (catalog : Catalog) (graph : Graph) (paths : List PathTree) → flat_map rules.path_faults paths ≡ [] → flat_map limits.path_faults paths ≡ [] →
+pub paths_short : (catalog : Catalog) (graph : Graph) (paths : List PathTree) → flat_map rules.path_faults paths ≡ [] → flat_map limits.path_faults paths ≡ [] →
     AllByRecursion IsJoined paths → AllByRecursion IsShortPath (map (checked_path catalog graph) paths)
 paths_short catalog graph [] h small j = tt
 paths_short catalog graph (path ∷ paths) h small j = (
-  short_path catalog graph path (left_none (rules.path_faults path) (flat_map rules.path_faults paths) h) (left_none (limits.path_faults path) (flat_map limits.path_faults paths) small)
+  short_path catalog graph path (left_none (rules.path_faults path) (flat_map rules.path_faults paths) h) (left_none (limits.path_faults path)
+      (flat_map limits.path_faults paths) small)
       (both_parts _ (list_all (list_all (λ b. b)) (body_given joining path.body).operands) j.0).1,
-  paths_short catalog graph paths (right_none (rules.path_faults path) (flat_map rules.path_faults paths) h) (right_none (limits.path_faults path) (flat_map limits.path_faults paths) small) j.1,
+  paths_short catalog graph paths (right_none (rules.path_faults path) (flat_map rules.path_faults paths) h) (right_none (limits.path_faults path)
+      (flat_map limits.path_faults paths) small) j.1,
 )
 
 -- ---- expressions
@@ -150,7 +154,8 @@ module _ (catalog : Catalog) (query : CheckedQuery) (all : List Declaration) (ki
   abbrev Good : Condition → Type 0
   Good condition = EachLeaf (IsGood graph all) condition.tree
 
-  wheres_sound : (conditions : List Condition) → AllByRecursion Good conditions → flat_map (where_faults (leaf_class catalog graph)) conditions ≡ [] → AllByRecursion IsSpelled conditions →
+  wheres_sound : (conditions : List Condition) → AllByRecursion Good conditions → flat_map (where_faults (leaf_class catalog graph)) conditions ≡ [] →
+      AllByRecursion IsSpelled conditions →
       AllMeet catalog graph (IsSoundCondition catalog query) conditions
   wheres_sound [] good none spelled = tt
   wheres_sound (condition ∷ conditions) good none spelled =
@@ -195,8 +200,10 @@ module _ (catalog : Catalog) (tree : QueryTree) (plain : IsPlain tree) (none : I
   unfolding form_faults size_faults type_faults
   lowerable =
       let good_parts = leaves_of_uses (IsGood own_graph (declarations tree)) tree all_good in
-      let wheres_none = left_none (flat_map (where_faults (leaf_class catalog own_graph)) (wheres tree)) (flat_map (λ (item : Item). condition_faults (leaf_class catalog own_graph) item.value) tree.columns) none.types in
-      let columns_none = right_none (flat_map (where_faults (leaf_class catalog own_graph)) (wheres tree)) (flat_map (λ (item : Item). condition_faults (leaf_class catalog own_graph) item.value) tree.columns) none.types in
+      let wheres_none = left_none (flat_map (where_faults (leaf_class catalog own_graph)) (wheres tree)) (flat_map (λ (item : Item). condition_faults
+      (leaf_class catalog own_graph) item.value) tree.columns) none.types in
+      let columns_none = right_none (flat_map (where_faults (leaf_class catalog own_graph)) (wheres tree)) (flat_map (λ (item : Item). condition_faults
+      (leaf_class catalog own_graph) item.value) tree.columns) none.types in
       let sizes_none = left_none (flat_map limits.path_faults tree.paths) (too_many_paths tree.paths) none.limits in
       let few_none = right_none (flat_map limits.path_faults tree.paths) (too_many_paths tree.paths) none.limits in record {
         graph = place_within catalog tree names.graph;
