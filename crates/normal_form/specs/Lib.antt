@@ -4,4 +4,5 @@ pub mod Joined
 pub mod Kept
 pub mod Merged
 pub mod Search
+pub mod Sizes
 pub mod Spending

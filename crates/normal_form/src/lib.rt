@@ -11,9 +11,11 @@ mod merged;
 mod names;
 mod paths;
 mod search;
+mod sizes;
 mod tags;
 #[cfg(test)]
 mod tests;
 
 pub use laws::{blocks_by_findings, blocks_by_path, findings_gathered};
 pub use paths::path_blocks;
+pub use sizes::block_size;
