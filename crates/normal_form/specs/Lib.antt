@@ -1,8 +1,10 @@
+pub mod Candidates
 pub mod Checked
 pub mod Found
 pub mod Joined
 pub mod Kept
 pub mod Merged
+pub mod Paying
 pub mod Search
 pub mod Sizes
 pub mod Spending

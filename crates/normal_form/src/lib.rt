@@ -1,6 +1,7 @@
 //! The path blocks of a checked query, each of which becomes a part of a SELECT.
 #![tactic(auto)]
 
+mod candidates;
 mod choices;
 mod copies;
 mod expansion;
@@ -9,6 +10,7 @@ mod labels;
 mod laws;
 mod merged;
 mod names;
+mod path_weight;
 mod paths;
 mod search;
 mod sizes;

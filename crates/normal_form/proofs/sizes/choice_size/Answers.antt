@@ -1,4 +1,4 @@
-use Rattle.std.proofs.Common.{length, nat_lt, false, ap, ◌∙◌}
+use Rattle.std.proofs.Common.{length, nat_lt, ap, ◌∙◌}
 use Rattle.normal_form.proofs.PairLemmas.{no_operand}
 use Rattle.normal_form.proofs.sizes.choice_size.Goals as goal
 

@@ -1,5 +1,4 @@
-use Rattle.std.proofs.Common.{[], ◌∷◌, ap, ◌∙◌, ◌+◌, arith}
-use Rattle.graph_meaning.specs.Choices.{edges_in}
+use Rattle.std.proofs.Common.{ap, ◌∙◌, ◌+◌, arith}
 use Rattle.normal_form.specs.Spending.{counted}
 use Rattle.normal_form.proofs.SizeLemmas.{edges_more}
 use Rattle.normal_form.proofs.sizes.edges_among.Goals as goal

@@ -1,4 +1,4 @@
-use Rattle.std.proofs.Common.{ap, ap₂, ◌∙◌, ◌+◌, ◌*◌, ◌≡◌}
+use Rattle.std.proofs.Common.{ap, ap₂, ◌∙◌, ◌+◌}
 use Rattle.std.specs.List.{sum_by}
 use Rattle.expr_tree.specs.Nodes.{count_of_nodes}
 use Rattle.graph_meaning.specs.Choices.{edges_in, iterations}

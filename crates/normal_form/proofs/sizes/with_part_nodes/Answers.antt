@@ -1,4 +1,4 @@
-use Rattle.std.proofs.Common.{ap, ◌∙◌, ◌+◌, ◌*◌}
+use Rattle.std.proofs.Common.{ap, ◌∙◌, ◌+◌}
 use Rattle.normal_form.specs.Spending.{counted}
 use Rattle.normal_form.proofs.SizeLemmas.{part_nodes}
 use Rattle.normal_form.proofs.sizes.with_part_nodes.Goals as goal
