@@ -1,8 +1,8 @@
 -- What is left of an amount after costs, one after another.
-use Rattle.std.proofs.Common.{◌≡◌, ℕ, ◌+◌, ◌-◌, ◌*◌, ◌<◌, ◌≤◌, ◌^◌, min, Bool, true, false, cond, nat_lt, List, [], ◌∷◌, drop, length, get_or, None, Some, refl, ap, ap₂, sym, ◌∙◌, arith}
+use Rattle.std.proofs.Common.{◌≡◌, ℕ, ◌+◌, ◌-◌, ◌*◌, ◌<◌, ◌≤◌, ◌^◌, min, Bool, true, false, cond, nat_lt, List, [], ◌∷◌, drop, length, get_or, None, Some, refl, ap, ap₂, sym, ◌∙◌, arith, ◌++◌, map, append_assoc}
 use Rattle.std.specs.Option.{unwrap_or}
 use Rattle.std.proofs.lemmas.Bool.Decides.{nat_tests}
-use Rattle.std.specs.List.{sum_by}
+use Rattle.std.specs.List.{sum_by, enumerate_from}
 use Rattle.std.proofs.lemmas.List.{drop_more}
 use Rattle.std.proofs.lemmas.List.Sums.{sum_by-cons}
 use Rattle.graph_ast.specs.declared.catalog.Graph.{Graph}
@@ -129,3 +129,14 @@ choice_paid left count places cost rest few is e =
 
 pub path_weight_is : (graph : Graph) (path : CheckedPath) → sum_by (choice_weight graph path) (choices path) ≡ prefix_weight graph path + place_weight graph path
 path_weight_is graph path = sum_of_both (prefixes graph path) (λ choice. length (complete graph path choice) * choice_size path choice) (choices path)
+
+-- a list that is made of numbered members grows by one
+pub numbered_on : {A B : Type 0} (f : ℕ × A → B) (xs : List A) (i : ℕ) (x : A) (done more whole : List B) (y : B) → i < length xs → x ≡ get_or xs i x → y ≡ f (i, x)
+    → more ≡ done ++ y ∷ [] → done ++ map f (enumerate_from i (drop i xs)) ≡ whole → more ++ map f (enumerate_from (i + 1) (drop (i + 1) xs)) ≡ whole
+numbered_on f xs i x done more whole y inside is made m before =
+    let rest = map f (enumerate_from (i + 1) (drop (i + 1) xs)) in
+    ap (λ l. l ++ rest) (m ∙ ap (λ z. done ++ z ∷ []) made)
+    ∙ append_assoc done (f (i, x) ∷ []) rest
+    ∙ ap (λ z. done ++ f (i, z) ∷ rest) is
+    ∙ sym (ap (λ l. done ++ map f (enumerate_from i l)) (drop_more xs i x inside))
+    ∙ before

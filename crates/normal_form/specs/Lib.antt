@@ -1,5 +1,6 @@
 pub mod Candidates
 pub mod Checked
+pub mod Costs
 pub mod Found
 pub mod Joined
 pub mod Kept
@@ -8,3 +9,4 @@ pub mod Paying
 pub mod Search
 pub mod Sizes
 pub mod Spending
+pub mod Weighing

@@ -1,4 +1,4 @@
-ghost use Rattle.std.specs.Prelude.{◌≡◌, ◌+◌, ◌<◌, cond, map, List as Seq, IfOk};
+ghost use Rattle.std.specs.Prelude.{◌≡◌, ◌+◌, cond, IfOk};
 ghost use Rattle.graph_meaning.specs.Weights.{block_size};
 ghost use Rattle.normal_form.specs.Spending.{counted};
 ghost use Rattle.normal_form.specs.Candidates.{Ends as BlockEnds, ends_of, same_ends, entry, size_by_ends, HasSizes, candidate_sizes};
@@ -10,10 +10,10 @@ use std::alloc::Global;
 use std::collections::HashMap;
 
 /// The first and the last element of a path block, and its number of places.
-type Ends = (u32, u32, usize);
+pub(crate) type Ends = (u32, u32, usize);
 
 /// The sizes of path blocks, by their ends.
-type Sizes = HashMap<Ends, u64>;
+pub(crate) type Sizes = HashMap<Ends, u64>;
 
 fn ends_of(block: &PathBlock) -> Ends
     ensures { result ≡ ends_of block.now }
@@ -40,7 +40,11 @@ fn add(mut sizes: Sizes, ends: Ends, size: u64) -> Result<Sizes, NoMemory>
 }
 
 /// The sizes of path blocks together, by their ends.
-fn sizes_by_ends(alloc: Global, path: &CheckedPath, blocks: &[PathBlock]) -> Result<Sizes, NoMemory>
+pub(crate) fn sizes_by_ends(
+    alloc: Global,
+    path: &CheckedPath,
+    blocks: &[PathBlock],
+) -> Result<Sizes, NoMemory>
     ensures { IfOk result (λ sizes. HasSizes path.now blocks.now sizes) }
 {
     let mut sizes = HashMap::new(alloc);
@@ -51,7 +55,7 @@ fn sizes_by_ends(alloc: Global, path: &CheckedPath, blocks: &[PathBlock]) -> Res
 }
 
 /// The sizes of the path blocks with these ends and fewer places.
-fn sizes_of_shorter(
+pub(crate) fn sizes_of_shorter(
     path: &CheckedPath,
     blocks: &[PathBlock],
     sizes: &Sizes,
@@ -66,20 +70,4 @@ fn sizes_of_shorter(
         total = sum(total, size_at(sizes, (first, last, places)));
     }
     total
-}
-
-/// The sizes of the candidates of each path block.
-pub(crate) fn candidates_of_each(
-    alloc: Global,
-    path: &CheckedPath,
-    blocks: &[PathBlock],
-) -> Result<Vec<u64>, NoMemory>
-    ensures { IfOk result (λ all. all.items ≡ map (λ block. counted (candidate_sizes path.now blocks.now block)) blocks.now) }
-{
-    let sizes = sizes_by_ends(alloc, path, blocks)?;
-    let mut all = Vec::new(alloc);
-    for block in blocks {
-        all.push(sizes_of_shorter(path, blocks, &sizes, block))?;
-    }
-    Ok(all)
 }

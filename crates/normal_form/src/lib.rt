@@ -4,6 +4,7 @@
 mod candidates;
 mod choices;
 mod copies;
+mod costs;
 mod expansion;
 mod fits;
 mod labels;
@@ -17,6 +18,7 @@ mod sizes;
 mod tags;
 #[cfg(test)]
 mod tests;
+mod weight;
 
 pub use laws::{blocks_by_findings, blocks_by_path, findings_gathered};
 pub use paths::path_blocks;
