@@ -4,3 +4,4 @@ pub mod Joined
 pub mod Kept
 pub mod Merged
 pub mod Search
+pub mod Spending
