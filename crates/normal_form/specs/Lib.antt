@@ -1,7 +1,9 @@
 pub mod Checked
 pub mod Found
+pub mod Join
 pub mod Joined
 pub mod Kept
 pub mod Merged
+pub mod Rows
 pub mod Search
 pub mod Spending
