@@ -1,5 +1,6 @@
 pub mod Checked
 pub mod Found
+pub mod Groups
 pub mod Join
 pub mod Joined
 pub mod Kept

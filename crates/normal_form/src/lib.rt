@@ -5,6 +5,7 @@ mod choices;
 mod copies;
 mod expansion;
 mod fits;
+mod groups;
 mod joined;
 mod labels;
 mod laws;

@@ -1,9 +1,11 @@
-ghost use Rattle.std.specs.Prelude.{◌≡◌, ◌++◌, ◌∷◌, [], ◌≤◌, nat_eq, length, map, flat_map, option_map, IfOk};
+ghost use Rattle.std.specs.Prelude.{◌≡◌, ◌++◌, ◌∷◌, [], ◌≤◌, nat_eq, length, map, flat_map, option_map, option_copied, IfOk};
 ghost use Rattle.std.specs.List.{list_all};
 ghost use Rattle.graph_meaning.specs.Lists.{first_of};
 ghost use Rattle.normal_form.specs.Search.{IsWhole};
 ghost use Rattle.normal_form.specs.Rows.{seen, tagged_in, tagged_along, are_as, joins, extended};
+ghost use Rattle.normal_form.specs.Groups.{found};
 
+use crate::groups::{common, grouped, key_of};
 use crate::names::is_one_of;
 use graph_ast::PathBlock;
 use pgq_base::{List, Name, NoMemory};
@@ -125,7 +127,26 @@ fn extend<'b>(
     Ok(Some(done))
 }
 
+/// Adds a row followed by each path block of a group that may follow it.
+fn extend_by<'b>(
+    alloc: Global,
+    names: &[&Name],
+    group: Option<&List<Costed<'b>>>,
+    row: &[Costed<'b>],
+    done: List<List<Costed<'b>>>,
+    most: usize,
+) -> Result<Option<List<List<Costed<'b>>>>, NoMemory>
+    requires { length done ≤ most }
+    ensures { IfOk result (λ all. IsWhole most (option_map (map (map seen)) all) (map (map seen) done.entry ++ extended (map (λ n. n.now) names.now) (found (option_copied group.entry)) (map seen row.entry.now))) }
+{
+    match group {
+        None => Ok(Some(done)),
+        Some(group) => extend(alloc, names, group.as_slice(), row, done, most),
+    }
+}
+
 /// The rows followed by the path blocks that may follow them, and nothing where they are more than so many.
+/// A row is tried with those path blocks alone that have its elements at the names that all of them have.
 pub(crate) fn extend_all<'b>(
     alloc: Global,
     names: &[&Name],
@@ -135,9 +156,13 @@ pub(crate) fn extend_all<'b>(
 ) -> Result<Option<List<List<Costed<'b>>>>, NoMemory>
     ensures { IfOk result (λ all. IsWhole most (option_map (map (map seen)) all) (flat_map (extended (map (λ n. n.now) names.now) (map seen list.entry.now)) (map (map seen) rows.entry.now))) }
 {
+    let common = common(alloc, names, list, rows)?;
+    let groups = grouped(alloc, common.as_slice(), list)?;
     let mut done = List::new(alloc);
     for row in rows {
-        match extend(alloc, names, list, row.as_slice(), done, most)? {
+        let key = key_of(alloc, common.as_slice(), row.as_slice())?;
+        let group = groups.get(key.as_slice());
+        match extend_by(alloc, names, group, row.as_slice(), done, most)? {
             None => return Ok(None),
             Some(more) => done = more,
         }
