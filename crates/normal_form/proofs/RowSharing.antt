@@ -37,6 +37,10 @@ same_flat : {A B : Type 0} (f g : A → List B) → ((x : A) → f x ≡ g x) �
 same_flat f g e [] = refl
 same_flat f g e (x ∷ xs) = ap₂ (λ l m. l ++ m) (e x) (same_flat f g e xs)
 
+map_self : {X : Type 0} (xs : List X) → map (λ x. x) xs ≡ xs
+map_self [] = refl
+map_self (x ∷ xs) = ap (λ l. x ∷ l) (map_self xs)
+
 -- combinations of images are images of combinations
 pub combinations_map : {A B : Type 0} (f : A → B) (lists : List (List A)) → map (map f) (combinations lists) ≡ combinations (map (map f) lists)
 combinations_map f [] = refl
@@ -155,6 +159,19 @@ module _ (graph : Graph) (query : CheckedQuery) (names : List (List ℕ)) (same 
         (λ more. length (filter (is_shared query) (combinations (take (more + 2) (query_path_blocks graph query))))) (λ more. first_paths (more + 2)) (numbers_below (length lists - 2))
         ∙ ap (λ n. sum_by (λ more. length (filter (is_shared query) (combinations (take (more + 2) (query_path_blocks graph query))))) (numbers_below (n - 2))) as_many
 
+    -- with their costs, the rows are the graph blocks with theirs
+    pub costed_rows : (cost : PathBlock → ℕ) → lists ≡ map (map (λ block. (block, cost block))) (query_path_blocks graph query)
+        → joined names lists ≡ map (map (λ block. (block, cost block))) (filter (is_shared query) (combinations (query_path_blocks graph query)))
+    costed_rows cost is =
+        let whole : List (List PathBlock) = query_path_blocks graph query in
+        let with : PathBlock → BlockCost = λ block. (block, cost block) in
+        ap (joined names) is ∙ ap (filter (is_joined names)) (sym (combinations_map with whole))
+        ∙ filter_of_map (is_joined names) (map with) (combinations whole)
+        ∙ ap (map (map with))
+        (same_filter_in (λ row. is_joined names (map with row)) (is_shared query) (combinations whole)
+        (λ row k. row_joined (map with row) ∙ ap joined_by_blocks (map_twice (λ (part : BlockCost). part.0) with row ∙ map_self row)
+        ∙ shared_by_blocks row (picks_so IsEven whole all_even row (from_combinations row whole k))))
+
     -- the rows as blocks
     pub graph_blocks : (rows : List (List BlockCost)) → rows ≡ joined names lists → map (λ row. record { paths = map (λ part. part.0) row }) rows ≡ blocks graph query
     graph_blocks rows is =
@@ -164,10 +181,6 @@ module _ (graph : Graph) (query : CheckedQuery) (names : List (List ℕ)) (same 
 same_map : {X Y : Type 0} (f g : X → Y) → ((x : X) → f x ≡ g x) → (xs : List X) → map f xs ≡ map g xs
 same_map f g e [] = refl
 same_map f g e (x ∷ xs) = ap₂ (λ a l. a ∷ l) (e x) (same_map f g e xs)
-
-map_self : {X : Type 0} (xs : List X) → map (λ x. x) xs ≡ xs
-map_self [] = refl
-map_self (x ∷ xs) = ap (λ l. x ∷ l) (map_self xs)
 
 -- path blocks that cost nothing
 pub free_alone : (lists whole : List (List PathBlock)) (parts : List (List BlockCost)) → lists ≡ whole → parts ≡ map (map (λ block. (block, 0))) lists → map (map (λ part. part.0)) parts ≡ whole

@@ -106,14 +106,28 @@ module _ (names : List (List ℕ)) (lists : List (List BlockCost)) (limit : ℕ)
             let all : take (place + 1) lists ≡ lists = take_all (place + 1) lists (ltb-false (place + 1) (length lists) e) in
             omega (arith, ap length (grown_is ∙ ap (joined names) all), paid_within place, known.left, h)
 
-  pub at_end : (place rest : ℕ) (all : Joined) → IsPaid names lists limit place (map (map seen) all.rows) rest → length lists ≤ place → all.left ≡ rest
-      → AreAllJoined names lists limit all
-  at_end place rest all known h same =
-      let whole : min (place - 1) (length lists - 2) ≡ length lists - 2 = omega (arith, known.begun, h) in
-      record {
-        rows = known.rows ∙ ap (joined names) (take_all place lists h);
-        left = spent_is limit (payment names lists) rest (ap (λ n. rest + sum_by (rows_of names lists) (numbers_below n)) (sym whole) ∙ known.left) ∙ ap Some (sym same);
-      }
+  -- all lists are joined
+  module _ (place rest : ℕ) (rows these : List (List Costed)) (known : IsPaid names lists limit place (map (map seen) rows) rest) (past : length lists ≤ place) (alike : these ≡ rows) where
+    all_rows : map (map seen) rows ≡ joined names lists
+    all_rows = known.rows ∙ ap (joined names) (take_all place lists past)
+
+    as_many : length these ≡ length (joined names lists)
+    as_many = ap length alike ∙ sym (length-map rows (map seen)) ∙ ap length all_rows
+
+    all_paid : rest + payment names lists ≡ limit
+    all_paid =
+        let whole : min (place - 1) (length lists - 2) ≡ length lists - 2 = omega (arith, known.begun, past) in
+        ap (λ n. rest + sum_by (rows_of names lists) (numbers_below n)) (sym whole) ∙ known.left
+
+    pub over : rest < length these → limit < payment names lists + length (joined names lists)
+    over h = omega (arith, h, as_many, all_paid)
+
+    pub within : (all : Joined) → all.rows ≡ rows → all.left ≡ rest → length these ≤ rest → AreAllJoined names lists limit all
+    within all same left h = record {
+      rows = ap (map (map seen)) same ∙ all_rows;
+      left = spent_is limit (payment names lists) rest all_paid ∙ ap Some (sym left);
+      few = omega (arith, h, as_many, all_paid);
+    }
 
 -- what extending some rows by a list answers
 module _ (names : List (List ℕ)) (given : List (List Costed)) (place most : ℕ) (rows these : List (List Costed)) (list this : List Costed) (inside : place < length given)

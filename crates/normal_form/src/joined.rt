@@ -69,6 +69,9 @@ pub(crate) fn join<'b>(
             left -= rows.as_slice().len() as u64;
         }
     }
+    if rows.as_slice().len() as u64 > left {
+        return Ok(None);
+    }
     Ok(Some(Joined { rows, left }))
 }
 
