@@ -1,24 +1,23 @@
 -- Graph blocks are found path pattern by path pattern.
-use Rattle.std.proofs.Common.{◌≡◌, ℕ, inl, inr, Bool, true, false, cond, List, [], ◌∷◌, ◌++◌, map, filter, flat_map, refl, sym, ap, ap₂, ◌∙◌, true≢false, nat_eq, bytes_eq, append_assoc}
+use Rattle.std.proofs.Common.{◌≡◌, ℕ, Bool, true, false, cond, List, [], ◌∷◌, ◌++◌, map, filter, flat_map, refl, sym, ap, ap₂, ◌∙◌, true≢false, nat_eq, bytes_eq, append_assoc}
 use Rattle.std.specs.List.{list_any, list_all}
-use Rattle.multisets.specs.Bags.{IsIn}
 use Rattle.graph_ast.specs.declared.checked.CheckedQuery.{CheckedQuery}
 use Rattle.graph_ast.specs.declared.blocks.PathBlock.{PathBlock}
 use Rattle.graph_ast.specs.declared.blocks.Tags.{Tags}
-use Rattle.graph_meaning.specs.Lists.{all_same, tagged, agree, combinations}
+use Rattle.graph_meaning.specs.Lists.{all_same, tagged, combinations}
 use Rattle.graph_meaning.specs.Answers.{query_singletons}
 use Rattle.graph_meaning.specs.Blocks.{is_shared}
-use Rattle.graph_meaning.proofs.Members.{both_parts, both_true, each_of, all_from, from_map}
+use Rattle.graph_meaning.proofs.Members.{both_parts, both_true, each_of, all_from}
 use Rattle.graph_meaning.proofs.PrefixLemmas.{BeginsWith}
 use Rattle.normal_form.proofs.Gathering.{map-parts}
 use Rattle.normal_form.proofs.Merging.{map_twice}
 use Rattle.normal_form.specs.Joined.{joined_by}
 
-flat_parts : {A B : Type 0} (f : A → List B) (us vs : List A) → flat_map f (us ++ vs) ≡ flat_map f us ++ flat_map f vs
+pub flat_parts : {A B : Type 0} (f : A → List B) (us vs : List A) → flat_map f (us ++ vs) ≡ flat_map f us ++ flat_map f vs
 flat_parts f [] vs = refl
 flat_parts f (u ∷ us) vs = ap (λ l. f u ++ l) (flat_parts f us vs) ∙ sym (append_assoc (f u) (flat_map f us) (flat_map f vs))
 
-filter_parts : {A : Type 0} (p : A → Bool) (us vs : List A) → filter p (us ++ vs) ≡ filter p us ++ filter p vs
+pub filter_parts : {A : Type 0} (p : A → Bool) (us vs : List A) → filter p (us ++ vs) ≡ filter p us ++ filter p vs
 filter_parts p [] vs = refl
 filter_parts p (u ∷ us) vs =
     elim (p u) as (λ b. cond b (u ∷ filter p (us ++ vs)) (filter p (us ++ vs)) ≡ cond b (u ∷ filter p us) (filter p us) ++ filter p vs)
@@ -89,7 +88,7 @@ all_shorter : {X : Type 0} (p : X → Bool) (xs ys : List X) → list_all p (xs 
 all_shorter p [] ys h = refl
 all_shorter p (x ∷ xs) ys h = let r = both_parts _ _ h in both_true _ _ r.0 (all_shorter p xs ys r.1)
 
-same_shorter : {X : Type 0} (same : X → X → Bool) (xs ys : List X) → all_same same (xs ++ ys) ≡ true → all_same same xs ≡ true
+pub same_shorter : {X : Type 0} (same : X → X → Bool) (xs ys : List X) → all_same same (xs ++ ys) ≡ true → all_same same xs ≡ true
 same_shorter same [] ys h = refl
 same_shorter same (x ∷ xs) ys h = all_shorter (same x) xs ys h
 

@@ -1,6 +1,15 @@
+pub mod Candidates
 pub mod Checked
+pub mod Costs
 pub mod Found
+pub mod Groups
+pub mod Join
 pub mod Joined
 pub mod Kept
 pub mod Merged
+pub mod Paying
+pub mod Rows
 pub mod Search
+pub mod Sizes
+pub mod Spending
+pub mod Weighing

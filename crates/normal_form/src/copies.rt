@@ -1,6 +1,6 @@
 ghost use Rattle.std.specs.Prelude.{◌≡◌, IfOk};
 
-use graph_ast::{Alternative, Tags};
+use graph_ast::{Alternative, PathBlock, Tags};
 use pgq_base::{List, Name, NoMemory};
 use std::alloc::Global;
 
@@ -40,5 +40,26 @@ pub(crate) fn copy_choice(alloc: Global, choice: &Alternative) -> Result<Alterna
     Ok(Alternative {
         operand: choice.operand,
         counts: copy_numbers(alloc, choice.counts.as_slice())?,
+    })
+}
+
+fn copy_choices(alloc: Global, choices: &[Alternative]) -> Result<List<Alternative>, NoMemory>
+    ensures { IfOk result (λ all. all ≡ choices.now) }
+{
+    let mut all = List::new(alloc);
+    for choice in choices {
+        all.push(copy_choice(alloc, choice)?)?;
+    }
+    Ok(all)
+}
+
+pub(crate) fn copy_block(alloc: Global, block: &PathBlock) -> Result<PathBlock, NoMemory>
+    ensures { IfOk result (λ copy. copy ≡ block.now) }
+{
+    Ok(PathBlock {
+        path: block.path,
+        tags: copy_tags(alloc, block.tags.as_slice())?,
+        elements: copy_numbers(alloc, block.elements.as_slice())?,
+        alternatives: copy_choices(alloc, block.alternatives.as_slice())?,
     })
 }

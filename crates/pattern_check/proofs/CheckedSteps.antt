@@ -10,7 +10,8 @@ use Rattle.pattern_check.proofs.Faultless.{left_none}
 pub inner_none : (path : PathTree) → path_faults path ≡ [] → inner_faults (body_given large path.body) ≡ []
 unfolding path_faults
 inner_none path h =
-    left_none (inner_faults (body_given large path.body)) (too_many_choices path) (left_none (inner_faults (body_given large path.body) ++ too_many_choices path) (path_too_long path) h)
+    left_none (inner_faults (body_given large path.body)) (too_many_choices path) (left_none (inner_faults (body_given large path.body) ++ too_many_choices path)
+    (path_too_long path) h)
 
 pub paths_none : (tree : QueryTree) → size_faults tree ≡ [] → flat_map path_faults tree.paths ≡ []
 unfolding size_faults

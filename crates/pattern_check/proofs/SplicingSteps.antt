@@ -15,13 +15,16 @@ behind_nothing done = ap₂ made_of (append-nil done.steps) (append-nil done.con
 
 pub behind_first : (done first : Spliced) (rest : List Spliced) → behind (behind done first) (splice rest) ≡ behind done (splice (first ∷ rest))
 behind_first done first rest =
-    ap₂ made_of (append_assoc done.steps first.steps (flat_map (λ (s : Spliced). s.steps) rest)) (append_assoc done.conditions first.conditions (flat_map (λ (s : Spliced). s.conditions) rest))
+    ap₂ made_of (append_assoc done.steps first.steps (flat_map (λ (s : Spliced). s.steps) rest)) (append_assoc done.conditions first.conditions (flat_map (λ
+    (s : Spliced). s.conditions) rest))
 
 pub behind_some : (done : Spliced) (first rest : List Spliced) → behind (behind done (splice first)) (splice rest) ≡ behind done (splice (first ++ rest))
 behind_some done first rest =
     ap₂ made_of
-    (append_assoc done.steps (flat_map (λ (s : Spliced). s.steps) first) (flat_map (λ (s : Spliced). s.steps) rest) ∙ ap (λ l. done.steps ++ l) (sym (flat_map-append (λ (s : Spliced). s.steps) first rest)))
-    (append_assoc done.conditions (flat_map (λ (s : Spliced). s.conditions) first) (flat_map (λ (s : Spliced). s.conditions) rest) ∙ ap (λ l. done.conditions ++ l) (sym (flat_map-append (λ (s : Spliced). s.conditions) first rest)))
+    (append_assoc done.steps (flat_map (λ (s : Spliced). s.steps) first) (flat_map (λ (s : Spliced). s.steps) rest) ∙ ap (λ l. done.steps ++ l) (sym (flat_map-append (λ
+    (s : Spliced). s.steps) first rest)))
+    (append_assoc done.conditions (flat_map (λ (s : Spliced). s.conditions) first) (flat_map (λ (s : Spliced). s.conditions) rest) ∙ ap (λ l. done.conditions ++ l) (sym
+    (flat_map-append (λ (s : Spliced). s.conditions) first rest)))
 
 -- the loop over factors goes on by one
 pub factor_on : {X : Type 0} (f : X → Spliced) (done : Spliced) (xs : List X) (i : ℕ) (x : X) → i < length xs → x ≡ get_or xs i x →

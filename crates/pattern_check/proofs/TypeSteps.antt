@@ -45,7 +45,8 @@ own_walked : (row : Seen) (ts : List Typed) → (with_operands row ts).own ≡ f
 own_walked row [] = refl
 own_walked row (t ∷ ts) =
     own_walked (with_operand row t) ts
-    ∙ sym (first_of_append row.own (misfit row.wanted (operand_of (t, row.spans))) (misfits (next row.wanted t.class) (map operand_of (side_by_side (drop t.nodes row.spans) ts))))
+    ∙ sym (first_of_append row.own (misfit row.wanted (operand_of (t, row.spans))) (misfits (next row.wanted t.class) (map operand_of (side_by_side
+    (drop t.nodes row.spans) ts))))
 
 inside_walked : (row : Seen) (ts : List Typed) → (with_operands row ts).inside ≡ first_of row.inside (flat_map child_faults (side_by_side row.spans ts))
 inside_walked row [] = refl

@@ -16,5 +16,6 @@ returns c =
     let graph = c.args.graph.now in
     lifted _ (λ made. made ≡ checked_condition catalog graph c.args.condition.now)
     (λ made exact. exact (λ (leaf : PropertyRef). Leaf (leaf_for catalog graph leaf))
-    (each_from_all _ (λ l r post. subst (λ x. IfOk r (λ made. made ≡ Leaf (leaf_for catalog graph x))) post.shows (let called = post.says.met in search rules)) (leaves_in c.args.condition.now.tree)))
+    (each_from_all _ (λ l r post. subst (λ x. IfOk r (λ made. made ≡ Leaf (leaf_for catalog graph x))) post.shows (let called = post.says.met in search rules))
+    (leaves_in c.args.condition.now.tree)))
     c.map_leaves.result c.map_leaves.ensures.exact

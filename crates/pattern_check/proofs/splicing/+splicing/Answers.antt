@@ -40,5 +40,7 @@ add_operands-loop-operand-preserved t c =
 pub add_union-returns : goal.add_union-returns
 add_union-returns t c =
     let given : Sequence → List Spliced = sequence_given (splicing c.args.catalog.now c.args.graph.now) in
-    subst (λ rows. IfOk c.add_operands.result (λ made. made ≡ behind c.args.done (splice (flat_map (λ own. own) rows)))) (sequences_inside (splicing c.args.catalog.now c.args.graph.now) c.args.union.now)
-    (subst (λ sequences. IfOk c.add_operands.result (λ made. made ≡ behind c.args.done (splice (flat_map (λ own. own) (map given sequences))))) c.as_slice.ensures c.add_operands.ensures)
+    subst (λ rows. IfOk c.add_operands.result (λ made. made ≡ behind c.args.done (splice (flat_map (λ own. own) rows)))) (sequences_inside
+    (splicing c.args.catalog.now c.args.graph.now) c.args.union.now)
+    (subst (λ sequences. IfOk c.add_operands.result (λ made. made ≡ behind c.args.done (splice (flat_map (λ own. own)
+    (map given sequences))))) c.as_slice.ensures c.add_operands.ensures)

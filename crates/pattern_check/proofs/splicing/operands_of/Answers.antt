@@ -19,5 +19,6 @@ loop-operand-preserved c =
     let within : c.loop-operand.operand-index < length c.args.operands.now = search rules in
     ap (λ l. l ++ map splice (map given (drop (c.loop-operand.operand-index + 1) c.args.operands.now)))
     (c.in_ok-push.ensures.ok
-    ∙ ap (λ (o : Spliced). c.loop-operand.made ++ o ∷ []) (c.in_ok-add_sequence.ensures ∙ ap (λ (n : Spliced). behind n (splice (given c.operand-item.result))) c.nothing.ensures))
+    ∙ ap (λ (o : Spliced). c.loop-operand.made ++ o ∷ []) (c.in_ok-add_sequence.ensures ∙ ap (λ (n : Spliced). behind n (splice
+    (given c.operand-item.result))) c.nothing.ensures))
     ∙ operands_on given c.loop-operand.made c.args.operands.now c.loop-operand.operand-index c.operand-item.result within c.operand-item.is ∙ c.loop-operand.invariant

@@ -1,0 +1,12 @@
+use Rattle.std.proofs.Common.{◌≡◌, ◌+◌, ◌++◌, ◌≤◌, map, drop}
+use Rattle.std.specs.List.{sum_by, enumerate_from}
+use Rattle.graph_meaning.specs.Blocks.{path_blocks}
+use Rattle.normal_form.specs.Weighing.{assignments_weight}
+use Rattle.normal_form.proofs.weight.weigh_paths.Given as goal
+
+abbrev pub invariant-loop-place : goal.invariant-loop-place
+invariant-loop-place l =
+    (l.left + sum_by (assignments_weight l.graph) l.paths ≡ l.amount + sum_by (assignments_weight l.graph) (drop l.place l.paths))
+    × (l.left ≤ l.amount)
+    × (l.lists ++ map (λ numbered. path_blocks l.graph numbered.0 numbered.1) (enumerate_from l.place (drop l.place l.paths))
+    ≡ map (λ numbered. path_blocks l.graph numbered.0 numbered.1) (enumerate_from 0 l.paths))
