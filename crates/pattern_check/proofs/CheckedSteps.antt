@@ -3,7 +3,7 @@ use Rattle.std.proofs.Common.{◌≡◌, ◌++◌, []}
 use Rattle.std.specs.List.{flat_map}
 use Rattle.graph_ast.specs.declared.query.PathTree.{PathTree}
 use Rattle.graph_ast.specs.declared.query.QueryTree.{QueryTree}
-use Rattle.pattern_check.specs.Patterns.{body_given}
+use Rattle.graph_ast.specs.Patterns.{body_given}
 use Rattle.pattern_check.specs.SizeRules.{large, inner_faults, path_faults, size_faults, too_many_choices, path_too_long, too_many_paths}
 use Rattle.pattern_check.proofs.Faultless.{left_none}
 

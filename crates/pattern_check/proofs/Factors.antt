@@ -12,7 +12,7 @@ use Rattle.graph_ast.specs.declared.query.Factor.TheVariants as v
 use Rattle.graph_ast.specs.declared.query.Factor.TheOpen.{Factor-F, PartTree-F, Sequence-F, Union-F}
 use Rattle.graph_ast.specs.declared.query.Factor.TheViews.{roll-Factor, out-roll-PartTree, out-roll-Sequence, out-roll-Union}
 use Rattle.graph_ast.specs.declared.query.Factor.TheFolds.{map-Factor, fold-roll-Factor, fold_out-Sequence, fold_out-Union, ind-Factor}
-use Rattle.pattern_check.specs.Patterns.{Giving, Part, Body, factor_step, part_step, sequence_step, body_step, given_by, sequence_given, part_given, body_given}
+use Rattle.graph_ast.specs.Patterns.{Giving, Part, Body, factor_step, part_step, sequence_step, body_step, given_by, sequence_given, part_given, body_given}
 use Rattle.pattern_check.proofs.Opened.{body_inside}
 
 abbrev factors_of : Sequence → List Factor

@@ -24,7 +24,7 @@ use Rattle.graph_ast.specs.declared.checked.Piece.{Piece}
 use Rattle.graph_ast.specs.declared.checked.Piece.TheVariants as piece
 use Rattle.first_faults.specs.declared.faults.Fault.{Fault}
 use Rattle.graph_ast.specs.Lookups.{graph_at}
-use Rattle.pattern_check.specs.Patterns.{Part, given_by, part_given}
+use Rattle.graph_ast.specs.Patterns.{Part, given_by, part_given}
 use Rattle.pattern_check.specs.Scopes.{Kind, vertices, edges, same_kind, Place, Declaration, place_inside, declaring, operand_declares, path_declares, declarations, declares}
 use Rattle.pattern_check.specs.Checked.{Spliced, splice, pieces_of, quantified, element, pattern_for, body_spliced, part_spliced, splicing, checked_path, unweighed_at}
 use Rattle.pattern_check.specs.NameRules.{variable_kind, variable_repeated, declaration_faults_behind}

@@ -31,13 +31,13 @@ use Rattle.graph_meaning.specs.Choices.{Condition, Iteration, operand_at, counts
 use Rattle.graph_meaning.proofs.Members.{from_range, from_below, from_map, from_flat, in_at, both_parts}
 use Rattle.first_faults.specs.declared.faults.Fault.{Fault}
 use Rattle.pattern_check.specs.declared.measures.Measure.{Measure}
-use Rattle.pattern_check.specs.Patterns.{Body, Part, given_by, body_given, part_given, is_optional, is_repeated}
+use Rattle.graph_ast.specs.Patterns.{Body, Part, given_by, body_given, part_given, is_optional, is_repeated, is_joined, joining}
 use Rattle.pattern_check.specs.FormRules as rules
 use Rattle.pattern_check.specs.SizeRules as limits
 use Rattle.pattern_check.specs.FormRules.{path_variable, any_selector, is_unbounded, is_reversed, Form, forms, row_faults, body_faults, own_faults, part_faults, has_edge, inner_union, inner_mode, part_without_edge, unbounded_quantifier, optional_part, nested_part, quantifier_order, quantifier_faults_of, quantifier_faults, undirected_edge, top_faults, multiset_union}
 use Rattle.pattern_check.specs.SizeRules.{too_many_choices, path_too_long, product, counts_allowed, greatest_count, sequence_measure, union_measure, body_measure, repeated_measure, measuring, path_measure, is_too_large, large_quantifier, joined, inner_faults, large}
 use Rattle.pattern_check.specs.Checked.{Spliced, splice, pieces_of, lower_bound, upper_bound, quantified, element, pattern_for, body_spliced, part_spliced, splicing, checked_path}
-use Rattle.pattern_check.specs.Lowerable.{IsBounded, IsShortPath, is_joined, joining}
+use Rattle.pattern_check.specs.Lowerable.{IsBounded, IsShortPath}
 use Rattle.pattern_check.proofs.Factors.{together, given_vertex, given_edge, given_part, part_operands, operands_given, rows_of, rows_in, Each, each_union}
 use Rattle.pattern_check.proofs.Opened.{joints_inside, body_inside}
 use Rattle.pattern_check.proofs.Faultless.{left_none, right_none, not_when, or_right}

@@ -18,7 +18,7 @@ use Rattle.graph_meaning.specs.Weights.{weight}
 use Rattle.graph_meaning.proofs.Members.{both_parts}
 use Rattle.first_faults.specs.declared.faults.Fault.{Fault}
 use Rattle.first_faults.specs.Faults.{fault, first_of}
-use Rattle.pattern_check.specs.Patterns.{body_given}
+use Rattle.graph_ast.specs.Patterns.{body_given, joining, IsJoined}
 use Rattle.pattern_check.specs.Scopes.{Declaration, Use, declarations, uses, wheres}
 use Rattle.pattern_check.specs.FormRules as rules
 use Rattle.pattern_check.specs.SizeRules as limits
@@ -28,7 +28,7 @@ use Rattle.pattern_check.specs.NameRules.{unknown_label, path_labels, unknown_pr
 use Rattle.pattern_check.specs.TypeRules.{leaf_class, condition_faults, where_faults, type_faults}
 use Rattle.pattern_check.specs.Checked.{checked_path, output, with_weight, unweighed_at, unweighed, checked}
 use Rattle.pattern_check.specs.Phases.{Phase, lowering_too_large, query_faults, or_then, first_fault}
-use Rattle.pattern_check.specs.Lowerable.{IsShortPath, IsLowerable, IsPlain, IsSpelled, IsSoundCondition, IsSoundExpression, joining, IsJoined, kinds_of, MakesLowerable}
+use Rattle.pattern_check.specs.Lowerable.{IsShortPath, IsLowerable, IsPlain, IsSpelled, IsSoundCondition, IsSoundExpression, kinds_of, MakesLowerable}
 use Rattle.pattern_check.proofs.Faultless.{no_first, left_none, right_none, not_when}
 use Rattle.pattern_check.proofs.LowerablePaths.{at_most, short_path}
 use Rattle.pattern_check.proofs.LowerableKinds.{key, kinds_are, has_one_kinds}

@@ -14,7 +14,7 @@ use Rattle.first_faults.specs.declared.faults.Fault.{Fault}
 use Rattle.first_faults.specs.Faults.{first_of}
 use Rattle.first_faults.proofs.Steps.{first_of_append}
 use Rattle.pattern_check.specs.declared.mentions.Mention.{Mention}
-use Rattle.pattern_check.specs.Patterns.{body_given}
+use Rattle.graph_ast.specs.Patterns.{body_given}
 use Rattle.pattern_check.specs.Scopes.{Declaration, Around, Use, declaring, around_inside, operands_declare}
 use Rattle.pattern_check.specs.Variables.{variables_if}
 use Rattle.pattern_check.specs.Mentions.{unplaced, row_said, rows_said, AreOperands}

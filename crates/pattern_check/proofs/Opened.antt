@@ -3,7 +3,7 @@ use Rattle.std.proofs.Common.{◌≡◌, List, map, ap, sym}
 use Rattle.graph_ast.specs.declared.query.PartTree.{PartTree, out-PartTree}
 use Rattle.graph_ast.specs.declared.query.Union.{Union, out-Union}
 use Rattle.graph_ast.specs.declared.query.Factor.TheFolds.{fold_out-PartTree, fold_out-Union}
-use Rattle.pattern_check.specs.Patterns.{Giving, Part, Body, body_given, part_given, sequence_given, factor_step, part_step, sequence_step, body_step}
+use Rattle.graph_ast.specs.Patterns.{Giving, Part, Body, body_given, part_given, sequence_given, factor_step, part_step, sequence_step, body_step}
 
 pub body_inside : {A : Type 0} (giving : Giving A) (part : PartTree) → body_given giving (out-PartTree part).body ≡ (part_given giving part).body
 body_inside {A} giving part =

@@ -5,7 +5,7 @@ use Rattle.std.proofs.lemmas.List.{map-append}
 use Rattle.graph_ast.specs.declared.query.PathTree.{PathTree}
 use Rattle.graph_ast.specs.declared.query.QueryTree.{QueryTree}
 use Rattle.pattern_check.specs.declared.mentions.Mention.{Mention}
-use Rattle.pattern_check.specs.Patterns.{body_given}
+use Rattle.graph_ast.specs.Patterns.{body_given}
 use Rattle.pattern_check.specs.Scopes.{Place, Declaration, declaring, operand_declares, operands_declare, path_declares, declarations}
 use Rattle.pattern_check.specs.Mentions.{at_operand, placed, unplaced, said, row_said, rows_said, row_declares, AreOperands, ArePaths, operands_placed, all_placed}
 

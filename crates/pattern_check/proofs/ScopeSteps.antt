@@ -8,7 +8,7 @@ use Rattle.first_faults.specs.Names.{has_text}
 use Rattle.first_faults.specs.Places.{first_place}
 use Rattle.graph_ast.specs.declared.query.Sequence.{Sequence}
 use Rattle.graph_ast.specs.declared.query.Factor.{Factor}
-use Rattle.pattern_check.specs.Patterns.{given_by, sequence_given}
+use Rattle.graph_ast.specs.Patterns.{given_by, sequence_given}
 use Rattle.pattern_check.specs.Scopes.{Uses, Place, Declaration, using, declaring}
 use Rattle.pattern_check.specs.Mentions.{row_declares}
 use Rattle.pattern_check.specs.Variables.{row_variables}

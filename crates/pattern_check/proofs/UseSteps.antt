@@ -10,7 +10,7 @@ use Rattle.graph_ast.specs.declared.query.Union.{Union, out-Union}
 use Rattle.graph_ast.specs.declared.query.Factor.TheFolds.{fold_out-Union}
 use Rattle.first_faults.specs.declared.faults.Fault.{Fault}
 use Rattle.first_faults.specs.Faults.{first_of}
-use Rattle.pattern_check.specs.Patterns.{Giving, Part, Body, given_by, sequence_given, part_given, body_given, factor_step, part_step, sequence_step, body_step}
+use Rattle.graph_ast.specs.Patterns.{Giving, Part, Body, given_by, sequence_given, part_given, body_given, factor_step, part_step, sequence_step, body_step}
 use Rattle.pattern_check.specs.Scopes.{Uses, Use, Around, using, uses_in_any, body_variables, body_uses, part_uses}
 use Rattle.pattern_check.specs.Variables.{variables_if}
 use Rattle.pattern_check.proofs.NamePhase.{inside_is}

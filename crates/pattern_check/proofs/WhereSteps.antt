@@ -4,7 +4,7 @@ use Rattle.std.specs.List.{flat_map}
 use Rattle.graph_ast.specs.declared.query.Condition.{Condition}
 use Rattle.first_faults.specs.declared.faults.Fault.{Fault}
 use Rattle.first_faults.specs.Faults.{first_of}
-use Rattle.pattern_check.specs.Patterns.{Body, Part}
+use Rattle.graph_ast.specs.Patterns.{Body, Part}
 use Rattle.pattern_check.specs.Scopes.{body_conditions, part_conditions}
 use Rattle.pattern_check.proofs.PatternSteps.{apart}
 

@@ -36,7 +36,7 @@ use Rattle.graph_ast.specs.declared.checked.PropertyLeaf.{PropertyLeaf}
 use Rattle.graph_ast.specs.declared.checked.Output.{Output}
 use Rattle.graph_ast.specs.Lookups.{graph_at, graph_place}
 use Rattle.graph_meaning.specs.Weights.{weight}
-use Rattle.pattern_check.specs.Patterns.{Giving, Body, Part, body_given}
+use Rattle.graph_ast.specs.Patterns.{Giving, Body, Part, body_given}
 use Rattle.pattern_check.specs.Graphs.{property_class}
 use Rattle.pattern_check.specs.NameRules.{column_name}
 

@@ -6,7 +6,7 @@ use Rattle.graph_ast.specs.declared.query.Sequence.{Sequence}
 use Rattle.pattern_check.specs.declared.mentions.Sort.{Sort}
 use Rattle.pattern_check.specs.declared.mentions.Sort.TheVariants.{Vertices, Edges}
 use Rattle.pattern_check.specs.declared.mentions.Mention.{Mention}
-use Rattle.pattern_check.specs.Patterns.{sequence_given, body_given}
+use Rattle.graph_ast.specs.Patterns.{sequence_given, body_given}
 use Rattle.pattern_check.specs.Scopes.{Kind, vertices, edges, Place, Declaration, declaring}
 
 abbrev pub kind_of : Sort → Kind

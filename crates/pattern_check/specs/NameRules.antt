@@ -21,7 +21,7 @@ use Rattle.graph_ast.specs.Lookups.{graph_at, graph_place}
 use Rattle.first_faults.specs.declared.faults.Fault.{Fault}
 use Rattle.first_faults.specs.Faults.{fault, when}
 use Rattle.first_faults.specs.Names.{has_text, repeated}
-use Rattle.pattern_check.specs.Patterns.{Giving, Body, body_given}
+use Rattle.graph_ast.specs.Patterns.{Giving, Body, body_given}
 use Rattle.pattern_check.specs.Scopes.{same_kind, Declaration, Around, Use, declarations, declares, first_declaration, operands_declare, uses}
 use Rattle.pattern_check.specs.Graphs.{elements_of_kind, is_label, has_property}
 

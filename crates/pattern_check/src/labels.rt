@@ -4,7 +4,7 @@ ghost use Rattle.graph_ast.specs.declared.catalog.Element.{Element as ElementTre
 ghost use Rattle.graph_ast.specs.declared.catalog.EdgeElement.{EdgeElement as EdgeTree};
 ghost use Rattle.first_faults.specs.Faults.{first_of};
 ghost use Rattle.first_faults.specs.Names.{has_text};
-ghost use Rattle.pattern_check.specs.Patterns.{given_by, sequence_given, part_given, body_given};
+ghost use Rattle.graph_ast.specs.Patterns.{given_by, sequence_given, part_given, body_given};
 ghost use Rattle.pattern_check.specs.Graphs.{is_label};
 ghost use Rattle.pattern_check.specs.NameRules.{labels_in, row_labels, body_labels, labelling, path_labels, unknown_label};
 

@@ -3,7 +3,7 @@ ghost use Rattle.expr_tree.specs.Leaves.{leaves_in, joined};
 ghost use Rattle.graph_ast.specs.declared.query.Item.{Item as ItemTree};
 ghost use Rattle.first_faults.specs.declared.faults.Fault.{Fault as FaultTree};
 ghost use Rattle.first_faults.specs.Faults.{first_of};
-ghost use Rattle.pattern_check.specs.Patterns.{given_by, sequence_given, part_given, body_given};
+ghost use Rattle.graph_ast.specs.Patterns.{given_by, sequence_given, part_given, body_given};
 ghost use Rattle.pattern_check.specs.Scopes.{Use, using, names_in, around_inside, uses_in, uses_in_any, body_uses, part_uses, path_uses, uses};
 ghost use Rattle.pattern_check.specs.Variables.{row_uses, used};
 

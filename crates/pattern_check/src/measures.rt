@@ -1,5 +1,5 @@
 ghost use Rattle.std.specs.Prelude.{◌≡◌, ◌+◌, ◌*◌, map, option_copied, max};
-ghost use Rattle.pattern_check.specs.Patterns.{given_by, sequence_given, part_given, body_given};
+ghost use Rattle.graph_ast.specs.Patterns.{given_by, sequence_given, part_given, body_given};
 ghost use Rattle.pattern_check.specs.SizeRules.{counts_allowed, greatest_count, chained, either, sequence_measure, union_measure, body_measure, repeated_measure, measuring, counted, counted_measure};
 
 use graph_ast::{Factor, PartTree, Quantifier, QuantifierKind, Sequence, Union};

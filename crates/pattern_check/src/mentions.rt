@@ -1,5 +1,5 @@
 ghost use Rattle.std.specs.Prelude.{◌≡◌, ◌||◌, map, flat_map, false, IfOk};
-ghost use Rattle.pattern_check.specs.Patterns.{given_by, sequence_given, part_given, body_given};
+ghost use Rattle.graph_ast.specs.Patterns.{given_by, sequence_given, part_given, body_given};
 ghost use Rattle.pattern_check.specs.Scopes.{Place as PlaceTree, declared_by, declaring, body_declares, is_quantified};
 ghost use Rattle.pattern_check.specs.Mentions.{kind_of, row_declares, Adds, IsSequence, AreSequences, AreOperands, ArePaths};
 

@@ -2,7 +2,7 @@ ghost use Rattle.std.specs.Prelude.{◌≡◌, ◌&&◌, map, not, is_none, opti
 ghost use Rattle.std.specs.List.{list_all, flat_map};
 ghost use Rattle.expr_tree.specs.Leaves.{leaves_in, joined};
 ghost use Rattle.graph_ast.specs.declared.query.PropertyRef.{PropertyRef as LeafOf};
-ghost use Rattle.pattern_check.specs.Patterns.{given_by, sequence_given, part_given, body_given};
+ghost use Rattle.graph_ast.specs.Patterns.{given_by, sequence_given, part_given, body_given};
 ghost use Rattle.pattern_check.specs.Scopes.{conditions, row_conditions, body_conditions, part_conditions, path_conditions, wheres};
 ghost use Rattle.pattern_check.specs.Served.{is_plain, is_plain_item, is_group_selector, has_no_groups, is_served};
 

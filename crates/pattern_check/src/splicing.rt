@@ -1,5 +1,5 @@
 ghost use Rattle.std.specs.Prelude.{◌≡◌, ◌++◌, [], ◌∷◌, map, flat_map, IfOk, option_copied};
-ghost use Rattle.pattern_check.specs.Patterns.{given_by, sequence_given, part_given, body_given};
+ghost use Rattle.graph_ast.specs.Patterns.{given_by, sequence_given, part_given, body_given};
 ghost use Rattle.pattern_check.specs.SizeRules.{large, joined, inner_faults};
 ghost use Rattle.pattern_check.specs.Checked.{splice, splicing, body_spliced, part_spliced};
 ghost use Rattle.pattern_check.specs.Splicing.{behind};

@@ -2,7 +2,7 @@ ghost use Rattle.std.specs.Prelude.{◌≡◌, None, map, [], ◌∷◌, ◌++�
 ghost use Rattle.std.specs.List.{flat_map};
 ghost use Rattle.graph_ast.specs.declared.query.Item.{Item as ItemTree};
 ghost use Rattle.first_faults.specs.Faults.{first_of};
-ghost use Rattle.pattern_check.specs.Patterns.{given_by, sequence_given, part_given, body_given};
+ghost use Rattle.graph_ast.specs.Patterns.{given_by, sequence_given, part_given, body_given};
 ghost use Rattle.pattern_check.specs.Scopes.{conditions, row_conditions, body_conditions, part_conditions, path_conditions, wheres};
 ghost use Rattle.pattern_check.specs.TypeRules.{leaf_class, where_faults, condition_faults, type_faults};
 

@@ -17,3 +17,4 @@ pub mod TreeIn
 pub mod PathSpans
 pub mod TestSpans
 pub mod QuerySpans
+pub mod JoinedTrees

@@ -30,7 +30,7 @@ use Rattle.pattern_parser.specs.declared.pieces.Prefix.{Prefix}
 use Rattle.pattern_parser.specs.Insides.{Own, HeldInside, Production, the, name, number, before}
 use Rattle.pattern_parser.specs.Patterns.{placed, node_of, last_place, reach_over, reach_with, part_of, part_at, vertex_at, edge_at, part_or_vertex, factor, sequence_of, sequence, joint_of, joint, Joined, joint_in, operand_in, sequence_in, union_of, union, selector_of, prefix_of, mode_and_noun, kind_of_any, any_of, shortest_of, all_prefix, any_prefix, shortest_prefix, prefix, selector_in, mode_in as mode_of, path_from, path_of, path}
 use Rattle.pattern_parser.specs.Queries.{inside}
-use Rattle.pattern_parser.specs.TreeSpans.{if_given, of_name, of_mode, of_quantifier, of_filler, of_condition, of_factor, of_part, of_sequence, of_union, of_selector, of_path, factor_step, part_step, sequence_step, union_step}
+use Rattle.graph_ast.specs.QuerySpans.{if_given, of_name, of_mode, of_quantifier, of_filler, of_condition, of_factor, of_part, of_sequence, of_union, of_selector, of_path, factor_step, part_step, sequence_step, union_step}
 use Rattle.pattern_parser.proofs.Ranges.{In, AllIn, Holds, Anything, Both, IfGiven, Chain, Given, Gives, Bracketed, any_gives, one_gives, mapped_gives, seq_gives, either_gives, opt_gives, many_gives, nest_gives, fork_gives}
 use Rattle.pattern_parser.proofs.SpanLists.{wider, reaches, all_wider, all_append, Spans, left_all, right_all, given_all, chain_all, joined_all, joined_map}
 use Rattle.pattern_parser.proofs.PatternSpans.{the_in, name_in, after_in, inside_all, mode_in, mode_part_in, quantifier_in, of_content, EdgeIn, edge_in}

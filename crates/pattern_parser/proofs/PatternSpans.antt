@@ -26,7 +26,7 @@ use Rattle.pattern_parser.specs.declared.pieces.EdgeEnd.{EdgeEnd}
 use Rattle.pattern_parser.specs.Insides.{Own, HeldInside, Production, the, name, after, parens, left_bracket, right_bracket}
 use Rattle.pattern_parser.specs.Patterns.{and_of, or_of, not_label, label_primary, label_not, label_and, label_union, mode_for, mode, mode_part, noun, quantifier, bounds, no_content, in_square, edge_end, wave_end, left_edge, edge, edge_of, direction, end_of, pointed, dashed, waved, filler_of, quantifier_of}
 use Rattle.pattern_parser.specs.Queries.{inside}
-use Rattle.pattern_parser.specs.TreeSpans.{if_given, of_name, of_mode, of_quantifier, of_label, label_step, of_filler, of_condition}
+use Rattle.graph_ast.specs.QuerySpans.{if_given, of_name, of_mode, of_quantifier, of_label, label_step, of_filler, of_condition}
 use Rattle.pattern_parser.proofs.Ranges.{In, AllIn, Holds, Anything, Both, IfGiven, Chain, Given, Gives, Bracketed, any_gives, one_gives, mapped_gives, seq_gives, either_gives, opt_gives, many_gives, nest_gives}
 use Rattle.pattern_parser.proofs.SpanLists.{wider, reaches, all_wider, all_append, Spans, left_all, right_all, given_all, chain_all, joined_all, joined_map}
 

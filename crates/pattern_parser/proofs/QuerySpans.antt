@@ -33,7 +33,7 @@ use Rattle.pattern_parser.specs.Patterns.{label_union, path}
 use Rattle.pattern_parser.specs.Tests.{Tree, condition, is_plain}
 use Rattle.pattern_parser.specs.Queries.{where_part, label_part, filler, part, alias, item_of, gather_of, count_gather, kind_of, leaf_gather, counted, property, is_ungathered, item_rest, after_word, first_member, item_with, item, tree_of, table, query_end, query, inside}
 use Rattle.pattern_parser.specs.Outcomes.{SpellsQuery}
-use Rattle.pattern_parser.specs.TreeSpans.{if_given, of_name, of_names, of_mode, of_label, of_condition, of_union, of_path, of_gather, of_item, of_tree, EachSpanHas}
+use Rattle.graph_ast.specs.QuerySpans.{if_given, of_name, of_names, of_mode, of_label, of_condition, of_union, of_path, of_gather, of_item, of_tree, EachSpanHas}
 use Rattle.pattern_parser.proofs.Ranges.{In, AllIn, Holds, Anything, Both, IfGiven, Chain, Given, Gives, Bracketed, any_gives, one_gives, mapped_gives, seq_gives, either_gives, opt_gives, many_gives, nest_gives}
 use Rattle.pattern_parser.proofs.SpanLists.{wider, reaches, all_wider, all_append, Spans, left_all, right_all, given_all, chain_all}
 use Rattle.pattern_parser.proofs.PatternSpans.{the_in, name_in, after_in, inside_all, label_union_in, mode_part_in, of_content}

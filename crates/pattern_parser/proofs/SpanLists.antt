@@ -4,7 +4,7 @@ use Rattle.std.specs.List.{AllByRecursion}
 use Rattle.pgq_base.specs.declared.refusal.Span.{Span}
 use Rattle.expr_tree.specs.Leaves.{joined}
 use Rattle.condition_grammar.specs.Spans.{reach}
-use Rattle.pattern_parser.specs.TreeSpans.{if_given}
+use Rattle.graph_ast.specs.QuerySpans.{if_given}
 use Rattle.pattern_parser.proofs.Ranges.{In, AllIn, Holds, Both, IfGiven, Chain}
 
 -- ---- one span

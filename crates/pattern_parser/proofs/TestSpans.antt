@@ -21,7 +21,7 @@ use Rattle.pattern_parser.specs.Insides.{Own, HeldOwn, HeldInside, Production, t
 use Rattle.pattern_parser.specs.Tests.{Tree, OfName, is_plain, put_name, leaf_of, dotted, date_text, own_operand, test_tail, truth_test, with_tail, predicate, not_when, related, end_of_edge, relation, after_name, first_of, group_test, grouped, after_group_word, unnamed_operand, test_from, test, negation, conjunction, condition, joined, more_members}
 use Rattle.pattern_parser.specs.Queries.{inside}
 use Rattle.pattern_parser.specs.declared.pieces.Counted.{Counted}
-use Rattle.pattern_parser.specs.TreeSpans.{if_given, of_name, of_names, of_test, of_leaf, of_label, of_item, of_tree}
+use Rattle.graph_ast.specs.QuerySpans.{if_given, of_name, of_names, of_test, of_leaf, of_label, of_item, of_tree}
 use Rattle.pattern_parser.proofs.Ranges.{In, AllIn, Holds, Anything, Both, IfGiven, Chain, Given, Gives, Bracketed, any_gives, one_gives, mapped_gives, seq_gives, either_gives, opt_gives, many_gives, nest_gives}
 use Rattle.pattern_parser.proofs.SpanLists.{wider, reaches, all_wider, all_append, Spans, left_all, right_all, given_all, chain_all}
 use Rattle.pattern_parser.proofs.PatternSpans.{the_in, name_in, after_in, of_content}

@@ -13,7 +13,7 @@ use Rattle.graph_ast.specs.declared.query.PropertyRef.{PropertyRef}
 use Rattle.condition_grammar.specs.declared.spanned.Spanned.{Spanned}
 use Rattle.condition_grammar.specs.Spans.{node, reach, first_span, without_first, span_of, tree_of, enclosed, last_span, all_of, any_of, not_if, Tail, unless_none, compared, ranged, listed, tested, coalesced, literal}
 use Rattle.pattern_parser.specs.Tests.{Tree}
-use Rattle.pattern_parser.specs.TreeSpans.{of_leaf}
+use Rattle.graph_ast.specs.QuerySpans.{of_leaf}
 use Rattle.pattern_parser.proofs.Ranges.{In, AllIn, Holds, Both, IfGiven, Chain, Bracketed}
 use Rattle.pattern_parser.proofs.SpanLists.{wider, reaches, all_wider, all_append}
 

@@ -4,6 +4,5 @@ pub mod Tests
 pub mod Queries
 pub mod Outcomes
 pub mod Reading
-pub mod TreeSpans
 pub mod Conditions
 pub mod Items

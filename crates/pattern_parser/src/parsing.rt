@@ -1,16 +1,18 @@
 ghost use Rattle.std.specs.Prelude.{◌≡◌, ℕ, List as Sequence, Result, length, IfOk, OnOk, IfErr, slice_get};
+ghost use Rattle.std.specs.List.{AllByRecursion};
 ghost use Rattle.sql_lexer.specs.declared.token.Token.{Token as Lexeme};
 ghost use Rattle.pgq_base.specs.declared.refusal.Refusal.{Refusal as AnyRefusal};
 ghost use Rattle.pgq_base.specs.Answers.{Gives};
 ghost use Rattle.sql_lexer.specs.Spans.{TokensLieIn, RefusalLiesIn};
 ghost use Rattle.sql_lexer.specs.Texts.{AreTokens, AreInOrder};
 ghost use Rattle.graph_ast.specs.declared.query.QueryTree.{QueryTree as Tree};
+ghost use Rattle.graph_ast.specs.Patterns.{IsJoined};
 ghost use Rattle.graph_ast.specs.Spans.{LiesIn};
 ghost use Rattle.token_grammar.specs.Parser.{finish};
 ghost use Rattle.token_grammar.specs.Code.{Parses};
 ghost use Rattle.pattern_parser.specs.Queries.{query};
 ghost use Rattle.pattern_parser.specs.Reading.{reads, at_depth};
-ghost use Rattle.pattern_parser.specs.TreeSpans.{EachSpanHas};
+ghost use Rattle.graph_ast.specs.QuerySpans.{EachSpanHas};
 ghost use Rattle.pattern_parser.specs.Outcomes.{SpellsQuery, IsShallow, IsFirstFault, IfRefused, IsOutcome, span_at, code_for};
 
 use crate::queries::query;
@@ -54,7 +56,7 @@ fn span_at(tokens: &[Token], place: usize, end: u32) -> Span
 /// end of the last token.
 ///
 /// The tree's spans are those of the tokens: where these stand in order and end by the text's end, as
-/// those that `lex` answers do, the tree's lie in the text. Where the tokens are no query text, or one
+/// those that `lex` answers do, the tree's lie in the text, and each of its unions has one joint less than operands. Where the tokens are no query text, or one
 /// with more than 64 open parentheses and square brackets together, the refusal is 201 or 801, of role
 /// `Query`, at the first fault: 201 stands at the first token such that no query text begins with the
 /// tokens up to it, and at the text's end where all of them begin one; 801 stands at a bracket that may
@@ -67,6 +69,7 @@ pub fn parse_query(alloc: Global, tokens: &[Token], end: u32) -> Result<QueryTre
     ensures refused { IfErr result (λ stop. IfRefused stop (IsFirstFault tokens.now end)) }
     ensures in_text { TokensLieIn end tokens.now → IfErr result (RefusalLiesIn end) }
     ensures spans { AreInOrder 0 end tokens.now → IfOk result (EachSpanHas (LiesIn end)) }
+    ensures joined { AreInOrder 0 end tokens.now → IfOk result (λ tree. AllByRecursion IsJoined tree.paths) }
 {
     let mut left = Cursor::new(tokens);
     match whole(alloc, &mut left) {

@@ -2,7 +2,7 @@ use Rattle.std.proofs.Common.{rules, ◌∙◌, ◌+◌, ◌<◌, List, ap, map,
 use Rattle.std.specs.List.{flat_map}
 use Rattle.graph_ast.specs.declared.schema.Named.{Named}
 use Rattle.first_faults.specs.Faults.{first_of}
-use Rattle.pattern_check.specs.Patterns.{given_by, sequence_given}
+use Rattle.graph_ast.specs.Patterns.{given_by, sequence_given}
 use Rattle.pattern_check.specs.NameRules.{unknown_label, labelling, row_labels}
 use Rattle.pattern_check.proofs.PatternSteps.{given_on}
 use Rattle.pattern_check.proofs.labels.+patterns.Goals as goal

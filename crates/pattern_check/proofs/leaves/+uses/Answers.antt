@@ -4,7 +4,7 @@ use Rattle.graph_ast.specs.declared.query.PartTree.{out-PartTree}
 use Rattle.graph_ast.specs.declared.query.Factor.TheVariants as factor_is
 use Rattle.std.specs.List.{flat_map}
 use Rattle.first_faults.specs.Faults.{first_of}
-use Rattle.pattern_check.specs.Patterns.{given_by, sequence_given, part_given, body_given}
+use Rattle.graph_ast.specs.Patterns.{given_by, sequence_given, part_given, body_given}
 use Rattle.pattern_check.specs.Scopes.{Uses, Use, using}
 use Rattle.pattern_check.specs.Variables.{row_uses}
 use Rattle.pattern_check.proofs.Opened.{body_inside, condition_inside}

@@ -1,7 +1,7 @@
 use Rattle.std.proofs.Common.{◌≡◌, map, drop}
 use Rattle.std.specs.List.{flat_map}
 use Rattle.first_faults.specs.Faults.{first_of}
-use Rattle.pattern_check.specs.Patterns.{given_by, sequence_given}
+use Rattle.graph_ast.specs.Patterns.{given_by, sequence_given}
 use Rattle.pattern_check.specs.Scopes.{using}
 use Rattle.pattern_check.specs.Variables.{row_uses}
 use Rattle.pattern_check.proofs.leaves.+uses.Given as goal

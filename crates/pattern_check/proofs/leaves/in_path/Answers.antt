@@ -2,7 +2,7 @@ use Rattle.std.proofs.Common.{◌∙◌, [], Some, ap}
 use Rattle.std.specs.List.{flat_map}
 use Rattle.std.proofs.lemmas.Result.{IfOk-weaker}
 use Rattle.first_faults.specs.Faults.{first_of}
-use Rattle.pattern_check.specs.Patterns.{body_given}
+use Rattle.graph_ast.specs.Patterns.{body_given}
 use Rattle.pattern_check.specs.Scopes.{Around, using, body_uses}
 use Rattle.pattern_check.proofs.leaves.in_path.Goals as goal
 

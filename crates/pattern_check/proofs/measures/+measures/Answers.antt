@@ -1,5 +1,5 @@
 use Rattle.std.proofs.Common.{rules, ◌∙◌, ◌+◌, ◌<◌, ap, map, drop, length, option_copied}
-use Rattle.pattern_check.specs.Patterns.{Body, given_by, sequence_given, part_given}
+use Rattle.graph_ast.specs.Patterns.{Body, given_by, sequence_given, part_given}
 use Rattle.pattern_check.specs.SizeRules.{chained, either, sequence_measure, union_measure, body_measure, repeated_measure, measuring, counted_measure}
 use Rattle.pattern_check.specs.declared.measures.Measure.{Measure}
 use Rattle.pattern_check.proofs.Opened.{body_inside}

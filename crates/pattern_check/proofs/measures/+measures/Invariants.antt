@@ -1,5 +1,5 @@
 use Rattle.std.proofs.Common.{◌≡◌, drop, map}
-use Rattle.pattern_check.specs.Patterns.{given_by, sequence_given}
+use Rattle.graph_ast.specs.Patterns.{given_by, sequence_given}
 use Rattle.pattern_check.specs.SizeRules.{chained, either, sequence_measure, union_measure, measuring, counted_measure}
 use Rattle.pattern_check.proofs.measures.+measures.Given as goal
 

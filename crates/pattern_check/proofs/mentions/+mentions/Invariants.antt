@@ -1,6 +1,6 @@
 use Rattle.std.proofs.Common.{◌≡◌, ℕ, ◌++◌, drop, map}
 use Rattle.std.specs.List.{flat_map}
-use Rattle.pattern_check.specs.Patterns.{given_by, sequence_given}
+use Rattle.graph_ast.specs.Patterns.{given_by, sequence_given}
 use Rattle.pattern_check.specs.Scopes.{declaring}
 use Rattle.pattern_check.specs.Mentions.{placed, at_operand, row_declares}
 use Rattle.pattern_check.proofs.mentions.+mentions.Given as goal

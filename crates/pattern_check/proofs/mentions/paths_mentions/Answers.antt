@@ -1,6 +1,6 @@
 use Rattle.std.proofs.Common.{rules, ◌∙◌, ◌+◌, ◌<◌, ◌++◌, false, ap, drop, map, length}
 use Rattle.graph_ast.specs.declared.query.PathTree.{PathTree}
-use Rattle.pattern_check.specs.Patterns.{body_given}
+use Rattle.graph_ast.specs.Patterns.{body_given}
 use Rattle.pattern_check.specs.Scopes.{declaring}
 use Rattle.pattern_check.specs.Mentions.{placed, at_operand, row_declares}
 use Rattle.pattern_check.proofs.ScopeSteps.{pushed}

@@ -1,6 +1,6 @@
 use Rattle.std.proofs.Common.{◌∙◌, false, ap, sym, map}
 use Rattle.std.proofs.lemmas.Result.{IfOk-weaker}
-use Rattle.pattern_check.specs.Patterns.{sequence_given}
+use Rattle.graph_ast.specs.Patterns.{sequence_given}
 use Rattle.pattern_check.specs.Scopes.{declaring}
 use Rattle.pattern_check.specs.Mentions.{at_operand, row_declares}
 use Rattle.pattern_check.proofs.ScopeSteps.{mapped_twice}

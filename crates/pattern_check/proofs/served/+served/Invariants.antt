@@ -1,6 +1,6 @@
 use Rattle.std.proofs.Common.{◌≡◌, drop, map}
 use Rattle.std.specs.List.{flat_map, list_all}
-use Rattle.pattern_check.specs.Patterns.{given_by, sequence_given}
+use Rattle.graph_ast.specs.Patterns.{given_by, sequence_given}
 use Rattle.pattern_check.specs.Scopes.{conditions, row_conditions}
 use Rattle.pattern_check.specs.Served.{is_plain}
 use Rattle.pattern_check.proofs.served.+served.Given as goal

@@ -4,7 +4,7 @@ use Rattle.graph_ast.specs.declared.query.Sequence.{Sequence}
 use Rattle.graph_ast.specs.declared.query.Factor.{Factor}
 use Rattle.graph_ast.specs.declared.query.Factor.TheFolds.{the_lemmas}
 use Rattle.first_faults.specs.declared.faults.Fault.{Fault}
-use Rattle.pattern_check.specs.Patterns.{given_by, sequence_given}
+use Rattle.graph_ast.specs.Patterns.{given_by, sequence_given}
 use Rattle.pattern_check.specs.SizeRules.{large, joined}
 use Rattle.pattern_check.specs.Checked.{Spliced, splice, splicing}
 use Rattle.pattern_check.specs.Splicing.{behind}

@@ -1,6 +1,6 @@
 use Rattle.std.proofs.Common.{◌≡◌, drop, map}
 use Rattle.std.specs.List.{flat_map}
-use Rattle.pattern_check.specs.Patterns.{given_by, sequence_given}
+use Rattle.graph_ast.specs.Patterns.{given_by, sequence_given}
 use Rattle.pattern_check.specs.Checked.{splice, splicing}
 use Rattle.pattern_check.specs.Splicing.{behind}
 use Rattle.pattern_check.proofs.splicing.+splicing.Given as goal

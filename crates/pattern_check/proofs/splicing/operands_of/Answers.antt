@@ -1,6 +1,6 @@
 use Rattle.std.proofs.Common.{rules, ◌∙◌, ◌+◌, ◌<◌, ◌++◌, ◌∷◌, [], List, ap, map, drop, length}
 use Rattle.graph_ast.specs.declared.query.Sequence.{Sequence}
-use Rattle.pattern_check.specs.Patterns.{sequence_given}
+use Rattle.graph_ast.specs.Patterns.{sequence_given}
 use Rattle.pattern_check.specs.SizeRules.{large, joined}
 use Rattle.pattern_check.specs.Checked.{Spliced, splice, splicing}
 use Rattle.pattern_check.specs.Splicing.{behind}

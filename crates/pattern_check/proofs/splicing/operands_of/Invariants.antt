@@ -1,5 +1,5 @@
 use Rattle.std.proofs.Common.{◌≡◌, ◌++◌, drop, map}
-use Rattle.pattern_check.specs.Patterns.{sequence_given}
+use Rattle.graph_ast.specs.Patterns.{sequence_given}
 use Rattle.pattern_check.specs.Checked.{splice, splicing}
 use Rattle.pattern_check.proofs.splicing.operands_of.Given as goal
 

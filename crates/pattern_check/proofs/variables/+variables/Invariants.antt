@@ -1,6 +1,6 @@
 use Rattle.std.proofs.Common.{◌≡◌, ◌++◌, drop, map}
 use Rattle.std.specs.List.{flat_map}
-use Rattle.pattern_check.specs.Patterns.{given_by, sequence_given}
+use Rattle.graph_ast.specs.Patterns.{given_by, sequence_given}
 use Rattle.pattern_check.specs.Scopes.{using}
 use Rattle.pattern_check.specs.Variables.{row_variables}
 use Rattle.pattern_check.proofs.variables.+variables.Given as goal

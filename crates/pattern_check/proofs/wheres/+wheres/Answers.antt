@@ -3,7 +3,7 @@ use Rattle.std.specs.List.{flat_map}
 use Rattle.first_faults.specs.Faults.{first_of}
 use Rattle.graph_ast.specs.declared.query.Condition.{Condition}
 use Rattle.graph_ast.specs.declared.query.PartTree.{out-PartTree}
-use Rattle.pattern_check.specs.Patterns.{given_by, sequence_given, part_given, body_given}
+use Rattle.graph_ast.specs.Patterns.{given_by, sequence_given, part_given, body_given}
 use Rattle.pattern_check.specs.Scopes.{conditions, row_conditions}
 use Rattle.pattern_check.specs.TypeRules.{leaf_class, where_faults}
 use Rattle.pattern_check.proofs.Opened.{body_inside, condition_inside}

@@ -1,7 +1,7 @@
 use Rattle.std.proofs.Common.{◌≡◌, drop, map}
 use Rattle.std.specs.List.{flat_map}
 use Rattle.first_faults.specs.Faults.{first_of}
-use Rattle.pattern_check.specs.Patterns.{given_by, sequence_given}
+use Rattle.graph_ast.specs.Patterns.{given_by, sequence_given}
 use Rattle.pattern_check.specs.Scopes.{conditions, row_conditions}
 use Rattle.pattern_check.specs.TypeRules.{leaf_class, where_faults}
 use Rattle.pattern_check.proofs.wheres.+wheres.Given as goal

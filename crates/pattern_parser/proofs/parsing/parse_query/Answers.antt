@@ -1,6 +1,7 @@
 use Rattle.std.proofs.Common.{◌-◌, ◌≤◌, length, Ok, Err, refl, sym, subst, arith}
 use Rattle.pattern_parser.proofs.Whole.{ok, shallow, left_short, first, span_in_text, one_outcome}
 use Rattle.pattern_parser.proofs.QuerySpans.{spans_lie}
+use Rattle.pattern_parser.proofs.JoinedTrees.{paths_are_joined}
 use Rattle.sql_lexer.specs.Spans.{LiesIn}
 use Rattle.pattern_parser.proofs.parsing.parse_query.Goals as goal
 
@@ -51,3 +52,7 @@ returns-in-Err-Refused-clause-refused c = is_first c
 pub returns-in-Err-Refused-clause-in_text : goal.returns-in-Err-Refused-clause-in_text
 returns-in-Err-Refused-clause-in_text c = λ h. subst (λ s. LiesIn c.args.end s) (sym c.span_at.ensures)
     (span_in_text c.args.end (length c.args.tokens.now - c.count.result) c.args.tokens.now h)
+
+pub returns-in-Ok-clause-joined : goal.returns-in-Ok-clause-joined
+returns-in-Ok-clause-joined c = λ order.
+    paths_are_joined c.args.end c.args.tokens.now c.in-Ok.tree order (ok c.args.tokens.now c.new-left.result c.new-left.ensures c.in-Ok.tree c.whole.new.tokens c.in-Ok.ensures)
