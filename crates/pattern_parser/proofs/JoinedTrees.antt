@@ -1,6 +1,7 @@
 -- The unions of a tree that is spelled have one joint less than operands.
-use Rattle.std.proofs.Common.{◌≡◌, refl, sym, ap, subst, ◌∙◌, ℕ, zero, suc, nat_eq, ◌≤◌, Bool, true, ◌&&◌, Option, Some, None, List, [], ◌∷◌, map, length}
+use Rattle.std.proofs.Common.{◌≡◌, refl, sym, ap, subst, ◌∙◌, ℕ, zero, suc, nat_eq, ◌≤◌, Bool, true, false, ◌&&◌, Option, Some, None, List, [], ◌∷◌, map, length}
 use Rattle.std.specs.List.{AllByRecursion, list_all}
+use Rattle.std.specs.Cmp.{nat_eq_equiv}
 use Rattle.pgq_base.specs.declared.refusal.Span.{Span}
 use Rattle.sql_lexer.specs.declared.token.Token.{Token}
 use Rattle.sql_lexer.specs.Texts.{AreInOrder}
@@ -23,8 +24,8 @@ use Rattle.pattern_parser.specs.declared.pieces.Content.{Content}
 use Rattle.pattern_parser.specs.declared.pieces.EdgePattern.{EdgePattern}
 use Rattle.pattern_parser.specs.declared.pieces.PartContent.{PartContent}
 use Rattle.pattern_parser.specs.declared.pieces.Placed.{Placed}
-use Rattle.pattern_parser.specs.Insides.{Own, HeldInside, Production, list, after}
-use Rattle.pattern_parser.specs.Patterns.{node_of, placed, part_of, part_at, vertex_at, edge_at, part_or_vertex, factor, sequence_of, sequence, Joined, joint_in, sequence_in, union_of, union, path}
+use Rattle.pattern_parser.specs.Insides.{Own, HeldInside, Production, list, after, parens}
+use Rattle.pattern_parser.specs.Patterns.{node_of, placed, reach_over, part_of, part_at, part_or_vertex, factor, sequence_of, sequence, Joined, joint_in, operand_in, sequence_in, union_of, union, path}
 use Rattle.pattern_parser.specs.Queries.{part, table, query, inside}
 use Rattle.pattern_parser.specs.Outcomes.{SpellsQuery}
 use Rattle.pattern_parser.proofs.Ranges.{Holds, Anything, Both, Chain, Given, Gives, Bracketed, any_gives, mapped_gives, seq_gives, either_gives, many_gives, nest_gives, fork_gives}
@@ -81,6 +82,7 @@ TreeJoined at end tree = AllByRecursion IsJoined tree.paths
 
 both_true : (a b : Bool) → a ≡ true → b ≡ true → (a && b) ≡ true
 both_true true b h i = i
+both_true false b h i = absurd cc
 
 factors_joined : (at end : ℕ) (xs : List (Placed Factor)) → Chain FactorJoined at end xs → AllTrue (map (given_by joining) (map node_of xs))
 factors_joined at end [] h = refl
@@ -101,9 +103,15 @@ operands_joined at end [] h = refl
 operands_joined at end (d ∷ more) (middle, l, u, first, rest) =
     both_true (list_all (λ b. b) (sequence_given joining d.1.node)) (list_all (list_all (λ b. b)) (map (sequence_given joining) (map sequence_in more))) first.second (operands_joined middle end more rest)
 
-as_many : (more : List Joined) → nat_eq (length (map (sequence_given joining) (map sequence_in more))) (length (map joint_in more)) ≡ true
-as_many [] = refl
-as_many (d ∷ more) = as_many more
+nat_eq_refl : (n : ℕ) → nat_eq n n ≡ true
+nat_eq_refl n = nat_eq_equiv.refl n
+
+as_long : (more : List Joined) → length (map (sequence_given joining) (map sequence_in more)) ≡ length (map joint_in more)
+as_long [] = refl
+as_long (d ∷ more) = ap suc (as_long more)
+
+as_many : (more : List Joined) → nat_eq (suc (length (map (sequence_given joining) (map sequence_in more)))) (suc (length (map joint_in more))) ≡ true
+as_many more = subst (λ n. nat_eq (suc (length (map (sequence_given joining) (map sequence_in more)))) (suc n) ≡ true) (as_long more) (nat_eq_refl (suc (length (map (sequence_given joining) (map sequence_in more)))))
 
 union_joined : (at end : ℕ) (d : Placed Sequence × List Joined) (span : Span) → Both SequenceJoined (Chain BehindJoint) at end d → UnionJoined at end (placed (union_of d.0.node d.1) span)
 union_joined at end d span h =
@@ -145,11 +153,11 @@ module _ (n : ℕ) (inner : (k : Inside Own) → Given (within class inside n k)
 
   in_sequence : Gives n sequence SequenceJoined
   unfolding sequence
-  in_sequence = mapped_gives n (seq_gives n factor_joined (many_gives n factor_joined)) (λ at end le d h. sequence_joined at end d _ h)
+  in_sequence = mapped_gives n (seq_gives n factor_joined (many_gives n factor_joined)) (λ at end le d h. sequence_joined at end d (reach_over d.0 d.1) h)
 
   in_union : Gives n union UnionJoined
   unfolding union
-  in_union = mapped_gives n (seq_gives n in_sequence (many_gives n (seq_gives n (any_gives n) in_sequence))) (λ at end le d h. union_joined at end d _ h)
+  in_union = mapped_gives n (seq_gives n in_sequence (many_gives n (seq_gives n (any_gives n) in_sequence))) (λ at end le d h. union_joined at end d (reach_over d.0 (map operand_in d.1)) h)
 
   in_path : Gives n path PathJoined
   unfolding path
@@ -181,13 +189,19 @@ module _ (n : ℕ) (inner : (k : Inside Own) → Given (within class inside n k)
   inside_joined (Inside.own Own.items) = any_gives n
   inside_joined (Inside.own Own.table) = in_table
 
-  behind : {V W : Type 0} {P : Holds V} {x : Production W} {r : Production V} → Gives n r P → Gives n (after x r) P
-  behind g = mapped_gives n (seq_gives n (any_gives n) g) (λ at end le d h. h.second)
+  behind : {V W : Type 0} (Q : V → Type 0) {x : Production W} {r : Production V} → Gives n r (λ at end v. Q v) → Gives n (after x r) (λ at end v. Q v)
+  behind Q g = mapped_gives n (seq_gives n (any_gives n) g) (λ at end le d h. h.second)
 
-  in_query : Gives n query TreeJoined
+  abbrev AreJoined : QueryTree → Type 0
+  AreJoined tree = AllByRecursion IsJoined tree.paths
+
+  in_parens : Gives n (parens Own.table) (λ at end tree. AreJoined tree)
+  in_parens = mapped_gives n (nest_gives n {P = TreeJoined} (inner (Inside.own Own.table))) (λ at end le d h. h.held)
+
+  in_query : Gives n query (λ at end tree. AreJoined tree)
   unfolding query
-  in_query = behind (behind (behind (behind
-      (mapped_gives n (seq_gives n (mapped_gives n (nest_gives n (inner (Inside.own Own.table))) (λ at end le d h. h.held)) (any_gives n)) (λ at end le d h. h.first)))))
+  in_query = behind AreJoined (behind AreJoined (behind AreJoined (behind AreJoined
+      (mapped_gives n (seq_gives n {P = λ at end tree. AreJoined tree} in_parens (any_gives n)) (λ at end le d h. h.first)))))
 
 -- what stands between brackets, however deep
 inner_joined : (n : ℕ) (k : Inside Own) → Given (within class inside n k) (HeldJoined k)
