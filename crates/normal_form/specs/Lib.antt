@@ -8,6 +8,7 @@ pub mod Joined
 pub mod Kept
 pub mod Merged
 pub mod Paying
+pub mod RowWeights
 pub mod Rows
 pub mod Search
 pub mod Sizes

@@ -2,16 +2,23 @@ ghost use Rattle.std.specs.Prelude.{◌≡◌, ◌+◌, ◌<◌, ◌≤◌, ◌^
 ghost use Rattle.std.specs.List.{All, sum_by, enumerate_from};
 ghost use Rattle.expr_tree.specs.Nodes.{count_of_nodes};
 ghost use Rattle.graph_meaning.specs.Blocks.{path_blocks};
-ghost use Rattle.graph_meaning.specs.Weights.{answer_nodes};
-ghost use Rattle.normal_form.specs.Spending.{counted};
+ghost use Rattle.graph_meaning.specs.Weights.{answer_nodes, weight};
+ghost use Rattle.normal_form.specs.Checked.{AreNumbered};
+ghost use Rattle.normal_form.specs.Spending.{counted, at_most};
 ghost use Rattle.normal_form.specs.Weighing.{assignments_weight, AreWeighed};
 
+use crate::costs::costed;
+use crate::names::all_singletons;
 use crate::path_weight::weigh_path;
+use crate::row_weight::weigh_rows;
 use crate::sizes::{nodes, sum};
 use expr_tree::Expr;
-use graph_ast::{CheckedPath, CheckedQuery, Graph, Output, PathBlock, PropertyLeaf};
+use graph_ast::{Catalog, CheckedPath, CheckedQuery, Graph, Output, PathBlock, PropertyLeaf};
 use pgq_base::{List, NoMemory};
 use std::alloc::Global;
+
+/// The most that a query may weigh.
+const LIMIT: u64 = 1_000_000;
 
 /// The nodes of the columns.
 fn column_nodes(columns: &[Output]) -> u64
@@ -75,4 +82,36 @@ fn weigh_paths(
         }
     }
     Ok(Some(Lists { left, lists }))
+}
+
+/// The weight of a query: how much its translation writes and looks at; nothing where it is above 1,000,000.
+/// What the search, the path blocks and the graph blocks weigh is paid for as it is found, so that the work
+/// stays in proportion to the limit.
+pub fn weight_of(
+    alloc: Global,
+    catalog: &Catalog,
+    query: &CheckedQuery,
+) -> Result<Option<u64>, NoMemory>
+    requires { AreNumbered catalog.now query.now }
+    ensures { IfOk result (λ w. w ≡ at_most 1000000 (weight catalog.now query.now)) }
+{
+    let graph = &catalog.graphs.as_slice()[query.graph as usize];
+    let paths = query.paths.as_slice();
+    let found = match weigh_paths(alloc, graph, paths, LIMIT)? {
+        None => return Ok(None),
+        Some(found) => found,
+    };
+    let names = all_singletons(alloc, paths)?;
+    let lists = costed(alloc, paths, found.lists.as_slice())?;
+    let answer = answer_nodes(query);
+    match weigh_rows(
+        alloc,
+        names.as_slice(),
+        lists.as_slice(),
+        answer,
+        found.left,
+    )? {
+        None => Ok(None),
+        Some(left) => Ok(Some(LIMIT - left)),
+    }
 }

@@ -1,5 +1,4 @@
-use Rattle.std.proofs.Common.{◌≡◌, ◌<◌, ◌≤◌, ℕ, List, Option, map, subst, arith}
-use Rattle.std.specs.List.{enumerate_from}
+use Rattle.std.proofs.Common.{◌<◌, ◌≤◌, ℕ, Option, subst, arith}
 use Rattle.graph_ast.specs.declared.checked.CheckedPath.{CheckedPath}
 use Rattle.graph_meaning.specs.Blocks.{path_blocks}
 use Rattle.normal_form.specs.declared.path_weight.Weighed.{Weighed}
