@@ -16,6 +16,7 @@ use Rattle.graph_ast.specs.declared.catalog.Graph.{Graph}
 use Rattle.graph_ast.specs.declared.checked.CheckedPath.{CheckedPath}
 use Rattle.graph_ast.specs.declared.checked.CheckedQuery.{CheckedQuery}
 use Rattle.graph_ast.specs.Catalogs.{IsValidCatalog, IsValidGraph}
+use Rattle.graph_ast.specs.Patterns.{IsJoined}
 use Rattle.graph_ast.specs.Lookups.{graph_at, graph_place}
 use Rattle.graph_meaning.specs.Weights.{weight}
 use Rattle.graph_meaning.proofs.Members.{in_at}
@@ -30,7 +31,7 @@ use Rattle.pattern_check.specs.FormRules.{form_faults}
 use Rattle.pattern_check.specs.Checked.{checked_path, with_weight, unweighed_at, unweighed, checked}
 use Rattle.pattern_check.specs.Phases.{or_then, lowering_too_large, first_fault}
 use Rattle.pattern_check.specs.Checks.{early_fault, later_fault, refusal_of, judged, due}
-use Rattle.pattern_check.specs.Lowerable.{IsPlain, IsLowerable, IsShortPath, IsJoined}
+use Rattle.pattern_check.specs.Lowerable.{IsPlain, IsLowerable, IsShortPath}
 use Rattle.pattern_check.proofs.Faultless.{no_first, left_none, right_none}
 use Rattle.pattern_check.proofs.LowerablePaths.{few_operands}
 use Rattle.pattern_check.proofs.LowerableQueries.{makes_lowerable, then_first, then_later, place_within, known_place, has_names, few_paths, paths_short}

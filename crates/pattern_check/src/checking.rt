@@ -1,4 +1,4 @@
-ghost use Rattle.std.specs.Prelude.{◌≡◌, ◌<◌, ◌^◌, None, Some, nat_lt, length, IfOk};
+ghost use Rattle.std.specs.Prelude.{◌≡◌, ℕ, ◌<◌, ◌^◌, None, Some, nat_lt, length, IfOk};
 ghost use Rattle.std.specs.List.{AllByRecursion};
 ghost use Rattle.pgq_base.specs.Answers.{Gives};
 ghost use Rattle.pgq_base.specs.declared.code.Code.TheVariants.{LoweringTooLarge};
@@ -9,7 +9,11 @@ ghost use Rattle.graph_meaning.specs.Weights.{weight};
 ghost use Rattle.first_faults.specs.Faults.{first_of, when};
 ghost use Rattle.pattern_check.specs.Checked.{with_weight};
 ghost use Rattle.normal_form.specs.Checked.{AreNumbered};
-ghost use Rattle.pattern_check.specs.Lowerable.{IsJoined, IsPlain, IsLowerable};
+ghost use Rattle.graph_ast.specs.Patterns.{IsJoined};
+ghost use Rattle.graph_ast.specs.QuerySpans.{EachSpanHas};
+ghost use Rattle.graph_ast.specs.Spans.{LiesIn};
+ghost use Rattle.pattern_check.specs.FaultPlaces.{StopLiesIn};
+ghost use Rattle.pattern_check.specs.Lowerable.{IsPlain, IsLowerable};
 ghost use Rattle.pattern_check.specs.Checks.{early_fault, later_fault, refusal_of, judged, due};
 
 use crate::checked::unweighed;
@@ -107,12 +111,7 @@ fn weighed(
     }
 }
 
-/// The checked query that a tree stands for over a catalog, with its weight.
-///
-/// It is refused exactly where its rules give a fault: with the first fault, by place and then by code, of the
-/// first of the phases forms, names, types, limits and weight that has one. Want of memory may be answered at
-/// any time. The rules, their codes and their limits are this project's own.
-pub fn check_query(alloc: Global, catalog: &Catalog, tree: &QueryTree) -> Result<CheckedQuery, Stop>
+fn judge(alloc: Global, catalog: &Catalog, tree: &QueryTree) -> Result<CheckedQuery, Stop>
     requires valid { IsValidCatalog catalog.now }
     requires joined { AllByRecursion IsJoined tree.now.paths }
     ensures answer { Gives (due catalog.now tree.now) result }
@@ -127,4 +126,20 @@ pub fn check_query(alloc: Global, catalog: &Catalog, tree: &QueryTree) -> Result
     }
     let query = unweighed(alloc, catalog, place, tree)?;
     weighed(alloc, catalog, tree, query)
+}
+
+/// The checked query that a tree stands for over a catalog, with its weight.
+///
+/// It is refused exactly where its rules give a fault: with the first fault, by place and then by code, of the
+/// first of the phases forms, names, types, limits and weight that has one. Want of memory may be answered at
+/// any time. The span of a refusal lies in the text in which the spans of the tree lie. The rules, their codes
+/// and their limits are this project's own.
+pub fn check_query(alloc: Global, catalog: &Catalog, tree: &QueryTree) -> Result<CheckedQuery, Stop>
+    requires valid { IsValidCatalog catalog.now }
+    requires joined { AllByRecursion IsJoined tree.now.paths }
+    ensures answer { Gives (due catalog.now tree.now) result }
+    ensures lowerable { IsPlain tree.now → IfOk result (λ query. IsLowerable catalog.now query) }
+    ensures in_text { (end : ℕ) → EachSpanHas (LiesIn end) tree.now → StopLiesIn end result }
+{
+    judge(alloc, catalog, tree)
 }

@@ -4,5 +4,6 @@ pub mod Given
 pub mod OneDue
 pub mod Placed
 pub mod PlacedFiles
+pub mod PlacedQueries
 pub mod PlacedTexts
 pub mod Translated

@@ -19,9 +19,10 @@ use Rattle.pgq_program.specs.declared.status.Status.TheVariants.{Refused}
 use Rattle.pgq_program.specs.Commands.{Asked}
 use Rattle.pgq_program.specs.Places.{NamesPart, IsLineDue, of_role, text_for}
 use Rattle.pgq_program.specs.Runs.{IsDue, status_of, err_text}
-use Rattle.pgq_program.specs.Steps.{Owes, IsCatalogAt, halting, held_text, text_at, graph_at, query_at, translate_due}
+use Rattle.pgq_program.specs.Steps.{Owes, IsCatalogAt, IsCheckedAt, halting, held_text, text_at, graph_at, query_at, translate_due}
 use Rattle.pgq_program.specs.Texts.{next, sized, checked}
 use Rattle.pgq_program.proofs.Placed.{IsPlaced, read}
+use Rattle.pgq_program.proofs.PlacedQueries.{query_read}
 use Rattle.pgq_program.proofs.PlacedTexts.{refused_next, given_next, too_large, within_size, formless, names_lie, schema_part, query_part}
 
 halted : {A : Type 0} (due : Result A Refusal) (r : Refusal) → halting due ≡ Err (h.Refused r) → due ≡ Err r
@@ -93,12 +94,20 @@ by_translate schema query files r e = by_graph (refused_next (graph_at schema fi
     by_graph (inl e) = in_schema (content_of schema files) (content_of query files) r (refused_graph files schema r e)
     by_graph (inr (graph, is, e)) = by_query graph (refused_next (query_at query files) _ (h.Refused r) e)
 
+by_check : (schema query : List ℕ) (files : List (List ℕ × List ℕ)) (r : Refusal) → IsCheckedAt schema query files (Err (h.Refused r)) → NamesPart (of_role (content_of schema files) (content_of query files)) r
+by_check schema query files r (inl fault) = in_schema (content_of schema files) (content_of query files) r (refused_catalog files schema r fault)
+by_check schema query files r (inr (catalog, e, inl fault)) = in_query (content_of schema files) (content_of query files) r (refused_text Query r (content_of query files) fault)
+by_check schema query files r (inr (catalog, e, inr (text, held, fault))) =
+    in_query (content_of schema files) (content_of query files) r (text, read_text Query text (content_of query files) held, query_read catalog text r fault)
+
 placed : (asked : Option Asked) (files : List (List ℕ × List ℕ)) (r : Refusal) → Owes asked files (Err (h.Refused r)) → NamesPart (text_for asked files) r
 placed None files r e = absurd cc
 placed (Some (Asked.OfTranslate schema query)) files r (inl e) = by_translate schema query files r e
 placed (Some (Asked.OfTranslate schema query)) files r (inr (checked, e, other)) = absurd cc
 placed (Some (Asked.OfCheck schema)) files r (inl fault) = in_schema (content_of schema files) None r (refused_catalog files schema r fault)
 placed (Some (Asked.OfCheck schema)) files r (inr (catalog, e, other)) = absurd cc
+placed (Some (Asked.OfCheckQuery schema query)) files r (inl fault) = by_check schema query files r fault
+placed (Some (Asked.OfCheckQuery schema query)) files r (inr (checked, e, other)) = absurd cc
 
 -- ---- what there is to say
 

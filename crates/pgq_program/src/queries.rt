@@ -1,4 +1,7 @@
 ghost use Rattle.std.specs.Prelude.{◌≡◌, ◌≤◌, length, IfErr};
+ghost use Rattle.std.specs.List.{AllByRecursion};
+ghost use Rattle.graph_ast.specs.Catalogs.{IsValidCatalog};
+ghost use Rattle.graph_ast.specs.Patterns.{IsJoined};
 ghost use Rattle.sql_lexer.specs.Spans.{RefusalLiesIn};
 ghost use Rattle.pgq_program.specs.Queries.{not_served, IsJudged, IsQueryRead};
 ghost use Rattle.pgq_program.specs.Texts.{GivesDue};
@@ -22,6 +25,8 @@ fn not_served() -> Refusal
 }
 
 fn judge(alloc: Global, catalog: &Catalog, tree: &QueryTree) -> Result<CheckedQuery, Stop>
+    requires valid { IsValidCatalog catalog.now }
+    requires joined { AllByRecursion IsJoined tree.now.paths }
     ensures { GivesDue (IsJudged catalog.now tree.now) result }
 {
     if !is_served(tree) {
@@ -36,7 +41,8 @@ pub(crate) fn read_checked(
     catalog: &Catalog,
     text: &[u8],
 ) -> Result<CheckedQuery, Stop>
-    requires { length text.now ≤ 1048576 }
+    requires small { length text.now ≤ 1048576 }
+    requires valid { IsValidCatalog catalog.now }
     ensures due { GivesDue (IsQueryRead catalog.now text.now) result }
     ensures in_text { IfErr result (RefusalLiesIn (length text.now)) }
 {

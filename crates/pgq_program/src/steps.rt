@@ -1,6 +1,7 @@
 ghost use Rattle.std.specs.Prelude.{◌≡◌, ◌≤◌, ◌++◌, IfSome, IfOk, IfErr, IsOkAnd, IsErrOf, None, Some, Err, length, codes, decimal};
 ghost use Rattle.multisets.specs.Bags.{IsIn};
 ghost use Rattle.edge_meaning.specs.Queries.{IsGraph, IsPattern, IsOfPattern};
+ghost use Rattle.graph_ast.specs.Catalogs.{IsValidCatalog};
 ghost use Rattle.pgq_base.specs.Files.{IsAsked};
 ghost use Rattle.pgq_program.specs.Chains.{Only};
 ghost use Rattle.pgq_program.specs.Commands.Asked.{OfTranslate, OfCheck, OfCheckQuery};
@@ -109,6 +110,7 @@ fn translation<F: Shelf>(
 fn catalog_in(alloc: Global, text: &[u8]) -> Result<Catalog, Halt>
     requires { length text.now ≤ 1048576 }
     ensures due { StepGives (Halted (IsRead text.now)) result }
+    ensures valid { IfOk result (λ catalog. IsValidCatalog catalog) }
     ensures never { IsErrOf result Halt.Usage → ⊥ }
     ensures calm { IsErrOf result Halt.ReadFault → ⊥ }
 {
@@ -125,6 +127,7 @@ fn catalog_of<F: Shelf>(alloc: Global, files: &mut F, name: &str) -> Result<Cata
     ensures files { F.files files.new ≡ F.files files.old }
     ensures cause { HaltCause (F.faults files.old) (F.faults files.new) result }
     ensures told { IfSome (F.files files.old) (λ told. StepGives (IsCatalogAt name.now told) result) }
+    ensures valid { IfOk result (λ catalog. IsValidCatalog catalog) }
     ensures never { IsErrOf result Halt.Usage → ⊥ }
 {
     let text = text_of(alloc, files, Role::Schema, name)?;
@@ -146,7 +149,8 @@ fn check<F: Shelf>(alloc: Global, files: &mut F, schema: &str) -> Result<List<u8
 }
 
 fn query_in(alloc: Global, catalog: &Catalog, text: &[u8]) -> Result<CheckedQuery, Halt>
-    requires { length text.now ≤ 1048576 }
+    requires small { length text.now ≤ 1048576 }
+    requires valid { IsValidCatalog catalog.now }
     ensures due { StepGives (Halted (IsQueryRead catalog.now text.now)) result }
     ensures never { IsErrOf result Halt.Usage → ⊥ }
     ensures calm { IsErrOf result Halt.ReadFault → ⊥ }
@@ -164,7 +168,8 @@ fn query_at<F: Shelf>(
     catalog: &Catalog,
     name: &str,
 ) -> Result<CheckedQuery, Halt>
-    requires { IsAsked name.now (F.words files.old) }
+    requires asked { IsAsked name.now (F.words files.old) }
+    requires valid { IsValidCatalog catalog.now }
     ensures words { F.words files.new ≡ F.words files.old }
     ensures files { F.files files.new ≡ F.files files.old }
     ensures cause { HaltCause (F.faults files.old) (F.faults files.new) result }
