@@ -38,7 +38,8 @@ module _ {L : Type 0} (f : L → List Fault) (first : Option Fault) (e : Expr L)
 
   pub compare_leaves : (op : Comparison) (a b : Expr L) (second last : Option Fault) → e ≡ v.Compare op a b → second ≡ after first a → last ≡ after second b → last ≡ after first e
   compare_leaves op a b second last is p q =
-      q ∙ ap (λ s. after s b) p ∙ sym (ap (λ l. first_of first (flat_map f l)) (leaves_at (Expr-F.Compare op a b) (v.rolls-Compare op a b ∙ sym is)) ∙ apart f first (leaves_in a) (leaves_in b))
+      q ∙ ap (λ s. after s b) p
+      ∙ sym (ap (λ l. first_of first (flat_map f l)) (leaves_at (Expr-F.Compare op a b) (v.rolls-Compare op a b ∙ sym is)) ∙ apart f first (leaves_in a) (leaves_in b))
 
   pub list_leaves : (a : Expr L) (es : List (Expr L)) (n : Bool) (second last : Option Fault) → e ≡ v.InList a es n → second ≡ after first a →
       last ≡ first_of second (flat_map f (joined (map leaves_in es))) → last ≡ after first e

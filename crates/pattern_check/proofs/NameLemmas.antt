@@ -1,7 +1,8 @@
 -- Looking declarations up by the names of those of which a test holds.
 use Rattle.std.proofs.Common.{◌≡◌, ◌∙◌, ℕ, suc, Bool, true, false, ◌||◌, ◌&&◌, not, cond, ap, sym, refl, List, [], ◌∷◌, ◌++◌, map, Option, None, Some, option_map, slice_get, bytes_eq}
-use Rattle.std.specs.List.{list_any}
-use Rattle.std.specs.Cmp.Lexicographic.{nat_list_eq_equiv}
+use Rattle.std.specs.List.{list_any, list_all}
+use Rattle.std.specs.Cmp.Lexicographic.{bytes_decides, nat_list_eq_equiv}
+use Rattle.std.proofs.lemmas.List.Folds.{list_all-append}
 use Rattle.std.proofs.lemmas.List.{append-nil, map-append}
 use Rattle.std.proofs.lemmas.Grind.{flat_map-append}
 use Rattle.first_faults.specs.Names.{has_text}
@@ -12,7 +13,7 @@ use Rattle.pattern_check.specs.declared.mentions.Sort.TheVariants.{Vertices, Edg
 use Rattle.pattern_check.specs.Scopes.{Kind, vertices, edges, same_kind, Declaration, declares, first_declaration}
 use Rattle.pattern_check.specs.NameRules.{is_declared, is_group}
 use Rattle.pattern_check.specs.Mentions.{kind_of, said}
-use Rattle.pattern_check.specs.ByName.{names_where, any, in_group, of_kind, group_of_kind, has_other_kind, has_same_kind}
+use Rattle.pattern_check.specs.ByName.{names_where, any, in_group, of_kind, group_of_kind, has_other_kind, has_same_kind, HaveVariables}
 
 -- the names of a longer list
 pub where_more : (holds : Declaration → Bool) (all : List Declaration) (d : Declaration) →
@@ -90,7 +91,8 @@ with_quantified : (k : Kind) (q : Bool) → q ≡ true → (all : List Declarati
 with_quantified k q e all name =
     text_where (of_kind k) all name
     ∙ any_like (λ d. declares name d && of_kind k d) (λ (d : Declaration). declares name d && (same_kind d.kind k && (d.place.quantified || q)))
-    (λ d. ap (λ b. declares name d && b) (sym (and_true (same_kind d.kind k)) ∙ ap (λ b. same_kind d.kind k && b) (or_true d.place.quantified ∙ ap (λ b. d.place.quantified || b) (sym e)))) all
+    (λ d. ap (λ b. declares name d && b) (sym (and_true (same_kind d.kind k))
+    ∙ ap (λ b. same_kind d.kind k && b) (or_true d.place.quantified ∙ ap (λ b. d.place.quantified || b) (sym e)))) all
 
 with_single : (k : Kind) (q : Bool) → q ≡ false → (all : List Declaration) (name : List ℕ) →
     has_text name (names_where (group_of_kind k) all) ≡ list_any (λ (e : Declaration). declares name e && (same_kind e.kind k && (e.place.quantified || q))) all
@@ -142,9 +144,63 @@ pub first_kind : (name : List ℕ) (ms : List Mention) →
 first_kind name [] = refl
 first_kind name (m ∷ ms) = go (first_kind name ms) (bytes_eq name m.variable.now.name) (nat_list_eq_equiv.symm name m.variable.now.name)
   where
-    go : option_map kind_of (kind_there (first_place name (names_where any (map said ms))) ms) ≡ option_map (λ (first : Declaration). first.kind) (first_declaration (map said ms) name) →
+    go : option_map kind_of (kind_there (first_place name (names_where any (map said ms))) ms) ≡
+        option_map (λ (first : Declaration). first.kind) (first_declaration (map said ms) name) →
         (b : Bool) → b ≡ bytes_eq m.variable.now.name name →
         option_map kind_of (kind_there (cond b (Some 0) (option_map (λ i. suc i) (first_place name (names_where any (map said ms))))) (m ∷ ms)) ≡
         option_map (λ (first : Declaration). first.kind) (cond (bytes_eq m.variable.now.name name) (Some (said m)) (first_declaration (map said ms) name))
     go rest true e = rw (← e) refl
     go rest false e = rw (← e) (ap (option_map kind_of) (kind_next (first_place name (names_where any (map said ms))) m ms) ∙ rest)
+
+-- ---- the first declaration of each variable
+
+absorbed : (b c : Bool) → (b && c) ≡ ((b && c) && b)
+absorbed true true = refl
+absorbed true false = refl
+absorbed false c = refl
+
+behind_one : (b l c : Bool) → l ≡ (l && c) → (b && l) ≡ ((b && l) && c)
+behind_one true l c e = e
+behind_one false l c e = refl
+
+-- what holds of all variables holds of one that is declared
+known_again : (p : List ℕ → Bool) (name : List ℕ) (all : List Declaration) → is_declared all name ≡ true →
+    list_all (λ (d : Declaration). p d.variable.name) all ≡ (list_all (λ (d : Declaration). p d.variable.name) all && p name)
+known_again p name [] e = cc
+known_again p name (d ∷ all) e = go (declares name d) refl e (known_again p name all)
+  where
+    rest : Bool
+    rest = list_all (λ (each : Declaration). p each.variable.name) all
+
+    go : (b : Bool) → declares name d ≡ b → (b || is_declared all name) ≡ true → (is_declared all name ≡ true → rest ≡ (rest && p name)) →
+        (p d.variable.name && rest) ≡ ((p d.variable.name && rest) && p name)
+    go true h e again =
+        let same : d.variable.name ≡ name = (bytes_decides d.variable.name name).0 h in
+        absorbed (p d.variable.name) rest ∙ ap (λ n. (p d.variable.name && rest) && p n) same
+    go false h e again = behind_one (p d.variable.name) rest (p name) (again e)
+
+module _ (firsts ms : List Mention) (m : Mention) (have : HaveVariables firsts (map said ms)) where
+  one_more : (p : List ℕ → Bool) (known : Bool) → known ≡ is_declared (map said ms) m.variable.now.name →
+      list_all (λ (each : Mention). p each.variable.now.name) (firsts ++ cond known [] (m ∷ [])) ≡
+      (list_all (λ (d : Declaration). p d.variable.name) (map said ms) && p m.variable.now.name)
+  one_more p true e =
+      ap (list_all (λ (each : Mention). p each.variable.now.name)) (append-nil firsts) ∙ have p ∙ known_again p m.variable.now.name (map said ms) (sym e)
+  one_more p false e =
+      list_all-append (λ (each : Mention). p each.variable.now.name) firsts (m ∷ [])
+      ∙ ap (λ b. list_all (λ (each : Mention). p each.variable.now.name) firsts && b) (and_true (p m.variable.now.name))
+      ∙ ap (λ b. b && p m.variable.now.name) (have p)
+
+  all_of_more : (p : List ℕ → Bool) → (list_all (λ (d : Declaration). p d.variable.name) (map said ms) && p m.variable.now.name) ≡
+      list_all (λ (d : Declaration). p d.variable.name) (map said (ms ++ m ∷ []))
+  all_of_more p =
+      ap (λ b. list_all (λ (d : Declaration). p d.variable.name) (map said ms) && b) (sym (and_true (p m.variable.now.name)))
+      ∙ sym (list_all-append (λ (d : Declaration). p d.variable.name) (map said ms) (said m ∷ []))
+      ∙ ap (list_all (λ (d : Declaration). p d.variable.name)) (sym (said_pushed ms m))
+
+  pub firsts_pushed : (more all : List Mention) (known : Bool) → more ≡ firsts ++ cond known [] (m ∷ []) → known ≡ is_declared (map said ms) m.variable.now.name →
+      all ≡ ms ++ m ∷ [] → HaveVariables more (map said all)
+  firsts_pushed more all known is e grown p =
+      ap (list_all (λ (each : Mention). p each.variable.now.name)) is
+      ∙ one_more p known e
+      ∙ all_of_more p
+      ∙ ap (λ l. list_all (λ (d : Declaration). p d.variable.name) (map said l)) (sym grown)

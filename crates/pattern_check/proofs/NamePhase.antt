@@ -74,7 +74,8 @@ joints_on first operand operands (joint ∷ joints) zero =
 joints_on first operand operands (joint ∷ joints) (suc i) = joints_on first operand operands joints i
 
 -- how the loop over the operands behind the first goes on by one
-pub operands_on : (found : Option Fault) (first : List Declaration) (xs : List (List Mention)) (joints : List Joint) (i : ℕ) (x : List Mention) → i < length xs → x ≡ get_or xs i x →
+pub operands_on : (found : Option Fault) (first : List Declaration) (xs : List (List Mention)) (joints : List Joint) (i : ℕ) (x : List Mention) → i < length xs →
+    x ≡ get_or xs i x →
     first_of found (unlike_first first (rows_said (drop i xs)) (drop i joints)) ≡
     first_of (first_of found (flat_map (variables_differ first (row_said x)) (option_to_list (slice_get joints i))))
     (unlike_first first (rows_said (drop (i + 1) xs)) (drop (i + 1) joints))
@@ -82,8 +83,10 @@ operands_on found first xs joints i x within is =
     ap (λ l. first_of found (unlike_first first (rows_said l) (drop i joints))) (drop_more xs i x within)
     ∙ ap (λ y. first_of found (unlike_first first (row_said y ∷ rows_said (drop (i + 1) xs)) (drop i joints))) (sym is)
     ∙ ap (first_of found) (joints_on first (row_said x) (rows_said (drop (i + 1) xs)) joints i
-    ∙ ap (λ k. flat_map (variables_differ first (row_said x)) (option_to_list (slice_get joints i)) ++ unlike_first first (rows_said (drop (i + 1) xs)) (drop k joints)) (sym (add-one i)))
-    ∙ first_of_append found (flat_map (variables_differ first (row_said x)) (option_to_list (slice_get joints i))) (unlike_first first (rows_said (drop (i + 1) xs)) (drop (i + 1) joints))
+    ∙ ap (λ k. flat_map (variables_differ first (row_said x)) (option_to_list (slice_get joints i)) ++ unlike_first first (rows_said (drop (i + 1) xs)) (drop k joints))
+    (sym (add-one i)))
+    ∙ first_of_append found (flat_map (variables_differ first (row_said x)) (option_to_list (slice_get joints i)))
+    (unlike_first first (rows_said (drop (i + 1) xs)) (drop (i + 1) joints))
 
 -- the operands behind the first
 pub among_first : (xs : List (List Mention)) (x : List Mention) (joints : List Joint) → slice_get xs 0 ≡ Some x →

@@ -26,7 +26,7 @@ tails e = ap tail e
 both : {X : Type 0} {x y : X} {xs ys : List X} → x ≡ y → xs ≡ ys → x ∷ xs ≡ y ∷ ys
 both {X} {x} {y} {xs} e f = ap (λ z. z ∷ xs) e ∙ ap (λ l. y ∷ l) f
 
-abbrev numbered : ℕ → ℕ → List (List Mention) → List (List Declaration)
+abbrev pub numbered : ℕ → ℕ → List (List Mention) → List (List Declaration)
 numbered path n all = map (λ (each : ℕ × List Mention). map (placed path each.0) each.1) (enumerate_from n all)
 
 operands_numbered : (path n : ℕ) (all : List (List Mention)) (rows : List (List (Place → List Declaration))) →
@@ -41,7 +41,7 @@ pub operands_are : (path : ℕ) (all : List (List Mention)) (rows : List (List (
     operands_placed path all ≡ map (operand_declares path) (enumerate_from 0 rows)
 operands_are path all rows e = operands_numbered path 0 all rows (e path)
 
-abbrev paths_from : ℕ → List (List (List Mention)) → List Declaration
+abbrev pub paths_from : ℕ → List (List (List Mention)) → List Declaration
 paths_from n all = flat_map (λ (each : ℕ × List (List Mention)). flat_map (λ (operand : List Declaration). operand) (operands_placed each.0 each.1)) (enumerate_from n all)
 
 paths_numbered : (n : ℕ) (all : List (List (List Mention))) (paths : List PathTree) → ArePaths paths all → paths_from n all ≡ flat_map path_declares (enumerate_from n paths)
@@ -64,7 +64,7 @@ pub row_unplaced : (path operand : ℕ) (ms : List Mention) → map unplaced (ma
 row_unplaced path operand [] = refl
 row_unplaced path operand (m ∷ ms) = ap (λ l. said m ∷ l) (row_unplaced path operand ms)
 
-abbrev joined : List (List Declaration) → List Declaration
+abbrev pub joined : List (List Declaration) → List Declaration
 joined rows = flat_map (λ (operand : List Declaration). operand) rows
 
 rows_unplaced : (path n : ℕ) (all : List (List Mention)) → map unplaced (joined (numbered path n all)) ≡ flat_map row_said all

@@ -13,7 +13,7 @@ use Rattle.pattern_check.specs.Mentions.{placed, unplaced, said, row_said, rows_
 use Rattle.pattern_check.specs.ByName.{has_other_kind, has_same_kind}
 use Rattle.pattern_check.specs.Repeats.{mention_faults, operand_faults, path_faults, said_faults}
 use Rattle.pattern_check.proofs.Unplaced.{any_mapped}
-use Rattle.pattern_check.proofs.Placing.{row_unplaced}
+use Rattle.pattern_check.proofs.Placing.{joined, numbered, paths_from, row_unplaced}
 
 -- ---- where declarations stand
 
@@ -169,12 +169,6 @@ module _ (path operand : ℕ) (settled others : List Declaration) (on : AllByRec
       ∙ ap (λ l. operand_faults (map unplaced settled) (map unplaced others) (map unplaced here) (row_said (m ∷ ms)) ++ declaration_faults_behind (settled ++ (others ++ l)) behind)
       (append_assoc here (later ∷ []) (map (placed path operand) ms))
 
-abbrev joined : List (List Declaration) → List Declaration
-joined rows = flat_map (λ (operand : List Declaration). operand) rows
-
-abbrev numbered : ℕ → ℕ → List (List Mention) → List (List Declaration)
-numbered path n all = map (λ (each : ℕ × List Mention). map (placed path each.0) each.1) (enumerate_from n all)
-
 in_earlier : (path n : ℕ) (d : Declaration) → IsInOperand path n d → IsInEarlierOperand path (n + 1) d
 in_earlier path n d h = (h.0, omega (arith, h.1))
 
@@ -216,9 +210,6 @@ rows_unplaced path n (ms ∷ all) =
     map-append unplaced (map (placed path n) ms) (joined (numbered path (n + 1) all))
     ∙ ap (λ l. l ++ map unplaced (joined (numbered path (n + 1) all))) (row_unplaced path n ms)
     ∙ ap (λ l. row_said ms ++ l) (rows_unplaced path (n + 1) all)
-
-abbrev paths_from : ℕ → List (List (List Mention)) → List Declaration
-paths_from n all = flat_map (λ (each : ℕ × List (List Mention)). flat_map (λ (operand : List Declaration). operand) (operands_placed each.0 each.1)) (enumerate_from n all)
 
 paths_are : (n : ℕ) (settled : List Declaration) (all : List (List (List Mention))) → AllByRecursion (IsOnEarlierPath n) settled →
     declaration_faults_behind settled (paths_from n all) ≡ said_faults (map unplaced settled) (map rows_said all)

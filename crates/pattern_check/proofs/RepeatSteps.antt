@@ -42,4 +42,5 @@ paths_step settled found xs i x within is =
     ap (λ l. first_of found (said_faults settled (map rows_said l))) (drop_more xs i x within)
     ∙ ap (λ y. first_of found (said_faults settled (rows_said y ∷ rest))) (sym is)
     ∙ first_of_append found (path_faults settled [] (rows_said x)) (said_faults (settled ++ flat_map (λ (operand : List Declaration). operand) (rows_said x)) rest)
-    ∙ ap (λ l. first_of (first_of found (path_faults settled [] (rows_said x))) (said_faults (settled ++ l) rest)) (flat_map-map (λ (operand : List Declaration). operand) row_said x)
+    ∙ ap (λ l. first_of (first_of found (path_faults settled [] (rows_said x))) (said_faults (settled ++ l) rest))
+    (flat_map-map (λ (operand : List Declaration). operand) row_said x)

@@ -55,7 +55,8 @@ variable_unplaced all around variable =
 
 abbrev faults_of_kind : Graph → PropertyRef → Option Declaration → List Fault
 faults_of_kind graph leaf first =
-    flat_map (λ (d : Declaration). when (not (list_any (has_property leaf.property.name) (elements_of_kind graph d.kind))) code.UnknownProperty leaf.property.span) (option_to_list first)
+    flat_map (λ (d : Declaration). when (not (list_any (has_property leaf.property.name) (elements_of_kind graph d.kind))) code.UnknownProperty leaf.property.span)
+    (option_to_list first)
 
 kind_unplaced : (graph : Graph) (leaf : PropertyRef) (first : Option Declaration) → faults_of_kind graph leaf (option_map unplaced first) ≡ faults_of_kind graph leaf first
 kind_unplaced graph leaf None = refl

@@ -1,7 +1,8 @@
 -- What is asked of some declarations by name.
-use Rattle.std.specs.Prelude.{ℕ, Bool, true, false, ◌&&◌, ◌||◌, not, cond, List, [], ◌∷◌, flat_map, Option, None, Some}
-use Rattle.std.specs.List.{list_any}
+use Rattle.std.specs.Prelude.{◌≡◌, ℕ, Bool, true, false, ◌&&◌, ◌||◌, not, cond, List, [], ◌∷◌, flat_map, Option, None, Some}
+use Rattle.std.specs.List.{list_any, list_all}
 use Rattle.graph_ast.specs.declared.catalog.Graph.{Graph}
+use Rattle.pattern_check.specs.declared.mentions.Mention.{Mention}
 use Rattle.pattern_check.specs.Graphs.{elements_of_kind, has_property}
 use Rattle.pattern_check.specs.Scopes.{Kind, same_kind, Declaration, declares}
 
@@ -20,6 +21,11 @@ of_kind kind declaration = same_kind declaration.kind kind
 
 abbrev pub group_of_kind : Kind → Declaration → Bool
 group_of_kind kind declaration = same_kind declaration.kind kind && declaration.place.quantified
+
+-- what holds of the variables of the first holds of those of the second, and the other way round
+abbrev pub HaveVariables : List Mention → List Declaration → Type 0
+HaveVariables firsts all =
+    (p : List ℕ → Bool) → list_all (λ (m : Mention). p m.variable.now.name) firsts ≡ list_all (λ (declaration : Declaration). p declaration.variable.name) all
 
 -- the variable is declared with the other kind
 abbrev pub has_other_kind : Declaration → List Declaration → Bool

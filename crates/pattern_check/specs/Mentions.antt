@@ -50,7 +50,8 @@ IsSequence row all = (path operand : ℕ) → map (placed path operand) all ≡ 
 -- the mentions of each of these sequences
 abbrev pub AreSequences : List Sequence → List (List Mention) → Type 0
 AreSequences sequences all =
-    (path operand : ℕ) → map (map (placed path operand)) all ≡ map (λ (sequence : Sequence). row_declares (at_operand path operand false) (sequence_given declaring sequence)) sequences
+    (path operand : ℕ) →
+    map (map (placed path operand)) all ≡ map (λ (sequence : Sequence). row_declares (at_operand path operand false) (sequence_given declaring sequence)) sequences
 
 -- the mentions of each operand
 abbrev pub AreOperands : List (List (Place → List Declaration)) → List (List Mention) → Type 0

@@ -4,7 +4,7 @@ ghost use Rattle.pattern_check.specs.Scopes.{Declaration, vertices, edges, same_
 ghost use Rattle.pattern_check.specs.NameRules.{is_declared, is_group};
 ghost use Rattle.pattern_check.specs.declared.mentions.Mention.{Mention as MentionTree};
 ghost use Rattle.pattern_check.specs.Mentions.{kind_of, said};
-ghost use Rattle.pattern_check.specs.ByName.{has_other_kind, has_same_kind};
+ghost use Rattle.pattern_check.specs.ByName.{has_other_kind, has_same_kind, HaveVariables};
 
 use crate::mentions::{Mention, Sort};
 use first_faults::Index;
@@ -12,11 +12,12 @@ use pgq_base::{Name, NoMemory};
 use std::alloc::Global;
 use std::marker::Model;
 
-/// Declarations that are found by their variables: all, those that are quantified, those of each kind, and those of each kind that
+/// Declarations that are found by their variables: all, the first one of each variable, those that are quantified, those of each kind, and those of each kind that
 /// are quantified. Contracts see their list, and not where each stands.
 #[derive(Drop)]
 pub struct Declared<'t> {
     all: Vec<Mention<'t>>,
+    firsts: Vec<Mention<'t>>,
     names: Index<'t>,
     groups: Index<'t>,
     vertices: Index<'t>,
@@ -29,13 +30,13 @@ impl<'t> Model for Declared<'t> {
     ghost use Rattle.std.specs.Prelude.{◌≡◌, List, map};
     ghost use Rattle.pattern_check.specs.Scopes.{Declaration, vertices as of_vertices, edges as of_edges};
     ghost use Rattle.pattern_check.specs.Mentions.{said};
-    ghost use Rattle.pattern_check.specs.ByName.{names_where, any, in_group, of_kind, group_of_kind};
+    ghost use Rattle.pattern_check.specs.ByName.{names_where, any, in_group, of_kind, group_of_kind, HaveVariables};
 
     ghost Value = { List Declaration };
 
     ghost view = { λ x. map said x.all.items };
 
-    ghost invariant = { λ x. (x.names ≡ names_where any (map said x.all.items)) × (x.groups ≡ names_where in_group (map said x.all.items)) × (x.vertices ≡ names_where (of_kind of_vertices) (map said x.all.items)) × (x.edges ≡ names_where (of_kind of_edges) (map said x.all.items)) × (x.vertex_groups ≡ names_where (group_of_kind of_vertices) (map said x.all.items)) × (x.edge_groups ≡ names_where (group_of_kind of_edges) (map said x.all.items)) };
+    ghost invariant = { λ x. (x.names ≡ names_where any (map said x.all.items)) × (x.groups ≡ names_where in_group (map said x.all.items)) × (x.vertices ≡ names_where (of_kind of_vertices) (map said x.all.items)) × (x.edges ≡ names_where (of_kind of_edges) (map said x.all.items)) × (x.vertex_groups ≡ names_where (group_of_kind of_vertices) (map said x.all.items)) × (x.edge_groups ≡ names_where (group_of_kind of_edges) (map said x.all.items)) × HaveVariables x.firsts.items (map said x.all.items) };
 }
 
 fn is_vertices(kind: Sort) -> bool
@@ -73,6 +74,20 @@ fn with_if<'t>(names: Index<'t>, holds: bool, name: &'t Name) -> Result<Index<'t
     }
 }
 
+// With the declaration, unless its variable is known.
+fn with_first<'t>(
+    mut firsts: Vec<Mention<'t>>,
+    known: bool,
+    m: Mention<'t>,
+) -> Result<Vec<Mention<'t>>, NoMemory>
+    ensures { IfOk result (λ all. all.items ≡ firsts.entry.items ++ cond known [] (m.entry ∷ [])) }
+{
+    if !known {
+        firsts.push(m)?;
+    }
+    Ok(firsts)
+}
+
 /// The name is one of these.
 #[tactic(auto, using(crate::proofs::ScopeSteps::text_place))]
 pub fn has(names: &Index<'_>, name: &Name) -> bool
@@ -97,6 +112,7 @@ impl<'t> Declared<'t> {
     {
         Declared {
             all: Vec::new(alloc),
+            firsts: Vec::new(alloc),
             names: Index::new(alloc),
             groups: Index::new(alloc),
             vertices: Index::new(alloc),
@@ -113,6 +129,7 @@ impl<'t> Declared<'t> {
     {
         let Declared {
             mut all,
+            firsts,
             names,
             groups,
             vertices,
@@ -125,6 +142,8 @@ impl<'t> Declared<'t> {
         let edge = is_edges(m.kind);
         let vertex_group = both(vertex, m.quantified);
         let edge_group = both(edge, m.quantified);
+        let known = has(&names, name);
+        let firsts = with_first(firsts, known, m)?;
         let names = with_if(names, true, name)?;
         let groups = with_if(groups, m.quantified, name)?;
         let vertices = with_if(vertices, vertex, name)?;
@@ -134,6 +153,7 @@ impl<'t> Declared<'t> {
         all.push(m)?;
         Ok(Declared {
             all,
+            firsts,
             names,
             groups,
             vertices,
@@ -143,11 +163,11 @@ impl<'t> Declared<'t> {
         })
     }
 
-    /// The declarations, in order.
-    pub fn mentions(&self) -> &[Mention<'t>]
-        ensures { map said result.now ≡ self.entry.now }
+    /// The first declaration of each variable.
+    pub fn firsts(&self) -> &[Mention<'t>]
+        ensures { HaveVariables result.now self.entry.now }
     {
-        self.all.as_slice()
+        self.firsts.as_slice()
     }
 
     /// The variable is declared.

@@ -35,7 +35,7 @@ fn all_like(ms: &[Mention<'_>], xs: &Declared<'_>, ys: &Declared<'_>) -> bool
 fn has_variables_of(xs: &Declared<'_>, ys: &Declared<'_>) -> bool
     ensures { result ≡ has_variables_of xs.now ys.now }
 {
-    all_like(xs.mentions(), xs, ys)
+    all_like(xs.firsts(), xs, ys)
 }
 
 fn have_same_variables(xs: &Declared<'_>, ys: &Declared<'_>) -> bool

@@ -11,9 +11,11 @@ use Rattle.pattern_check.proofs.leaves.+leaves.Goals as goal
 
 pub in_expr-returns-in-Compare : goal.in_expr-returns-in-Compare
 in_expr-returns-in-Compare g t c =
-    compare_leaves (λ leaf. g.R.LeafRule.faults c.args.rule.now (used c.args.around.now leaf)) c.args.first c.args.expr.now c.in-Compare.field-0 c.get.result.now c.get-in-Compare.result.now
+    compare_leaves (λ leaf. g.R.LeafRule.faults c.args.rule.now (used c.args.around.now leaf)) c.args.first c.args.expr.now
+    c.in-Compare.field-0 c.get.result.now c.get-in-Compare.result.now
     c.in_expr-found.result c.in_expr.result
-    (c.in-Compare.is ∙ ap (λ x. v.Compare c.in-Compare.field-0 x c.in-Compare.b) (sym c.get.ensures) ∙ ap (λ x. v.Compare c.in-Compare.field-0 c.get.result.now x) (sym c.get-in-Compare.ensures))
+    (c.in-Compare.is ∙ ap (λ x. v.Compare c.in-Compare.field-0 x c.in-Compare.b) (sym c.get.ensures)
+    ∙ ap (λ x. v.Compare c.in-Compare.field-0 c.get.result.now x) (sym c.get-in-Compare.ensures))
     c.in_expr-found.ensures c.in_expr.ensures
 
 pub in_expr-returns-in-Not : goal.in_expr-returns-in-Not
@@ -23,12 +25,14 @@ in_expr-returns-in-Not g t c =
 
 pub in_expr-returns-in-Is : goal.in_expr-returns-in-Is
 in_expr-returns-in-Is g t c =
-    is_leaves (λ leaf. g.R.LeafRule.faults c.args.rule.now (used c.args.around.now leaf)) c.args.first c.args.expr.now c.get-in-Is.result.now c.in-Is.field-1 c.in-Is.field-2 c.in_expr-in-Is.result
+    is_leaves (λ leaf. g.R.LeafRule.faults c.args.rule.now (used c.args.around.now leaf)) c.args.first c.args.expr.now
+    c.get-in-Is.result.now c.in-Is.field-1 c.in-Is.field-2 c.in_expr-in-Is.result
     (c.in-Is.is ∙ ap (λ x. v.Is x c.in-Is.field-1 c.in-Is.field-2) (sym c.get-in-Is.ensures)) c.in_expr-in-Is.ensures
 
 pub in_expr-returns-in-InList : goal.in_expr-returns-in-InList
 in_expr-returns-in-InList g t c =
-    list_leaves (λ leaf. g.R.LeafRule.faults c.args.rule.now (used c.args.around.now leaf)) c.args.first c.args.expr.now c.get-in-InList.result.now c.as_slice-in-InList.result.now c.in-InList.field-2
+    list_leaves (λ leaf. g.R.LeafRule.faults c.args.rule.now (used c.args.around.now leaf)) c.args.first c.args.expr.now
+    c.get-in-InList.result.now c.as_slice-in-InList.result.now c.in-InList.field-2
     c.in_expr-found-in-InList.result c.in_exprs-in-InList.result
     (c.in-InList.is ∙ ap (λ x. v.InList x c.in-InList.list c.in-InList.field-2) (sym c.get-in-InList.ensures)
     ∙ ap (λ x. v.InList c.get-in-InList.result.now x c.in-InList.field-2) (sym c.as_slice-in-InList.ensures))

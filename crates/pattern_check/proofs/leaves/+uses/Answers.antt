@@ -50,4 +50,5 @@ in_factor-returns-in_ok-inner-in-Part g t c =
     IfOk-weaker c.in_part.result _ _
     (λ found e. e ∙ ap (λ (l : List Use). first_of c.args.first (flat_map (g.R.LeafRule.faults c.args.rule.now) l))
     (uses_of_part c.args.factor.now c.get-part.result.now c.in-Part.quantifier (option_copied c.as_ref.result) c.args.around.now _
-    (c.in-Part.is ∙ ap (λ p. factor_is.Part p c.in-Part.quantifier) (sym c.get-part.ensures)) (there ∙ c.in_ok-names-in-Part.ensures) c.in_ok-inner-in-Part.ensures)) c.in_part.ensures
+    (c.in-Part.is ∙ ap (λ p. factor_is.Part p c.in-Part.quantifier) (sym c.get-part.ensures)) (there ∙ c.in_ok-names-in-Part.ensures)
+    c.in_ok-inner-in-Part.ensures)) c.in_part.ensures

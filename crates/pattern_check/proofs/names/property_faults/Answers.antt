@@ -8,4 +8,5 @@ use Rattle.pattern_check.proofs.names.property_faults.Goals as goal
 pub returns : goal.returns
 returns c =
     IfOk-weaker c.leaf_faults.result _ _
-    (λ found e. e ∙ ap (first_of c.args.first) (properties_at c.args.graph.now c.args.declared.now (declarations c.args.tree.now) (uses c.args.tree.now) c.requires)) c.leaf_faults.ensures
+    (λ found e. e ∙ ap (first_of c.args.first) (properties_at c.args.graph.now c.args.declared.now (declarations c.args.tree.now) (uses c.args.tree.now) c.requires))
+    c.leaf_faults.ensures

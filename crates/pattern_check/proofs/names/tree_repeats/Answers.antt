@@ -9,5 +9,6 @@ use Rattle.pattern_check.proofs.names.tree_repeats.Goals as goal
 pub returns : goal.returns
 returns c =
     IfOk-weaker c.declaration_faults.result _ _
-    (λ found e. e ∙ ap (first_of c.args.first) (sym (repeats_found c.args.mentions.now) ∙ ap (declaration_faults_behind []) (declared_are c.args.tree.now c.args.mentions.now c.requires)))
+    (λ found e. e
+    ∙ ap (first_of c.args.first) (sym (repeats_found c.args.mentions.now) ∙ ap (declaration_faults_behind []) (declared_are c.args.tree.now c.args.mentions.now c.requires)))
     c.declaration_faults.ensures

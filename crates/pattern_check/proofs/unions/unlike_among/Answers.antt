@@ -16,5 +16,6 @@ returns-in_ok-model-in-Some c =
     IfOk-weaker c.unlike_first.result _ _
     (λ found e. e
     ∙ ap (λ (l : List (List Mention)). first_of c.args.first (unlike_first c.in_ok-model-in-Some.model (rows_said l) c.args.joints.now)) c.behind_first.ensures
-    ∙ ap (λ (m : List Declaration). first_of c.args.first (unlike_first m (rows_said (drop 1 ops)) c.args.joints.now)) (c.in_ok-model-in-Some.ensures ∙ ap row_said c.as_slice.ensures)
+    ∙ ap (λ (m : List Declaration). first_of c.args.first (unlike_first m (rows_said (drop 1 ops)) c.args.joints.now))
+    (c.in_ok-model-in-Some.ensures ∙ ap row_said c.as_slice.ensures)
     ∙ ap (first_of c.args.first) (among_first ops x c.args.joints.now here)) c.unlike_first.ensures
