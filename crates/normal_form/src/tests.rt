@@ -79,7 +79,7 @@ fn both_ways(alloc: Global) -> Result<Graph, NoMemory> {
     graph(alloc, vertices, edges)
 }
 
-fn catalog(alloc: Global) -> Result<Catalog, NoMemory> {
+pub(crate) fn catalog(alloc: Global) -> Result<Catalog, NoMemory> {
     let mut graphs = List::new(alloc);
     graphs.push(loops(alloc, &["p"])?)?;
     graphs.push(loops(alloc, &["p", "q"])?)?;
@@ -92,7 +92,7 @@ fn catalog(alloc: Global) -> Result<Catalog, NoMemory> {
 
 // A vertex pattern, or an edge pattern of a direction, or what stands between operands.
 #[derive(Clone, Copy, PartialEq, Eq)]
-enum Kind {
+pub(crate) enum Kind {
     Vertex,
     Right,
     Left,
@@ -103,7 +103,7 @@ enum Kind {
 
 // An element pattern with its variable and its label, each empty where there is none, and the bounds of
 // its quantifier, which are 0 where there is none.
-type Mark = (Kind, &'static str, &'static str, u32, u32);
+pub(crate) type Mark = (Kind, &'static str, &'static str, u32, u32);
 
 const X: Mark = (Kind::Vertex, "x", "", 0, 0);
 
@@ -165,7 +165,7 @@ fn piece(kind: Kind, pattern: Pattern) -> Piece {
     }
 }
 
-fn step(alloc: Global, mark: Mark) -> Result<Step, NoMemory> {
+pub(crate) fn step(alloc: Global, mark: Mark) -> Result<Step, NoMemory> {
     let (kind, variable, label, lower, upper) = mark;
     let piece = piece(kind, pattern(alloc, variable, label)?);
     if upper == 0 {
@@ -181,7 +181,7 @@ fn step(alloc: Global, mark: Mark) -> Result<Step, NoMemory> {
     })
 }
 
-fn operand(alloc: Global, steps: List<Step>) -> Operand {
+pub(crate) fn operand(alloc: Global, steps: List<Step>) -> Operand {
     Operand {
         steps,
         conditions: List::new(alloc),
