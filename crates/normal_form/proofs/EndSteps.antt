@@ -63,7 +63,9 @@ nothing_below : (n : ℕ) (same : Bool) → (nat_lt n 0 && same) ≡ false
 nothing_below n same = grind (arith, nat_tests)
 
 pub none_shorter : (path : CheckedPath) (blocks : List PathBlock) (first last : ℕ) → sum_by (block_size path) (filter (is_shorter first last 0) blocks) ≡ 0
-none_shorter path blocks first last = sum_none (block_size path) (is_shorter first last 0) (λ block. nothing_below (ends_of block).2 (nat_eq (ends_of block).0 first && nat_eq (ends_of block).1 last)) blocks
+none_shorter path blocks first last =
+    sum_none (block_size path) (is_shorter first last 0)
+    (λ block. nothing_below (ends_of block).2 (nat_eq (ends_of block).0 first && nat_eq (ends_of block).1 last)) blocks
 
 -- one place more, where each number is counted as far as 64 bits go
 pub shorter_on : (path : CheckedPath) (blocks : List PathBlock) (first last places total found : ℕ)

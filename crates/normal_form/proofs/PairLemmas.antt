@@ -18,13 +18,6 @@ use Rattle.normal_form.specs.Sizes.{nodes_in, expansion_size}
 use Rattle.normal_form.proofs.Steps.{repeated_is}
 use Rattle.normal_form.proofs.SizeLemmas.{one_counted, sum_counted, scoped_nodes, nodes_of_iterated, nodes_of_scoped}
 
--- a product of two numbers of 64 bits has 128 bits
-pub square_fits : (k : ℕ) → k < 2 ^ 64 → (k + 1) * k < 2 ^ 128
-square_fits k h = let le : (k + 1) * k ≤ 2 ^ 64 * k = mul-le-mul_right k (omega arith) in omega (arith, le)
-
-pub pairs_fit : (k : ℕ) → k < 2 ^ 64 → k * (k - 1) < 2 ^ 128
-pairs_fit k h = let le : (k - 1) * k ≤ 2 ^ 64 * k = mul-le-mul_right k (omega arith) in let same = mul_comm k (k - 1) in omega (arith, le, same)
-
 half : (x k : ℕ) → k * 2 ≤ x → k ≤ x / 2
 half x k h = omega arith
 
@@ -114,7 +107,8 @@ no_pairs mode.Simple = refl
 -- an operand that is not there has one place
 pub no_operand : (path : CheckedPath) (choice : Alternative) → false ≡ nat_lt choice.operand (length path.operands) → 1 ≡ counted (choice_size path choice)
 no_operand path choice e =
-    let none : operand_at path choice.operand ≡ record { steps = []; conditions = [] } = missing path.operands choice.operand (record { steps = []; conditions = [] }) (grind (arith, nat_tests)) in
+    let none : operand_at path choice.operand ≡ record { steps = []; conditions = [] } =
+    missing path.operands choice.operand (record { steps = []; conditions = [] }) (grind (arith, nat_tests)) in
     sym (ap (λ operand. counted (expansion_size path.mode (expanded operand choice.counts))) none ∙ ap (λ n. counted (1 + 0 + n)) (no_pairs path.mode) ∙ one_counted)
   where
     missing : {X : Type 0} (xs : List X) (i : ℕ) (d : X) → length xs ≤ i → slice_index_or xs i d ≡ d

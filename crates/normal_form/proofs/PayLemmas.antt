@@ -34,13 +34,6 @@ spent_again left first second rest e = go (nat_lt left first) refl e
     go true h f = cc
     go false h f = after (grind (arith, nat_tests)) (inside _ _ f)
 
-pub spent_none : (left first second : ℕ) → spent left first ≡ None → spent left (first + second) ≡ None
-spent_none left first second e = go (nat_lt left first) refl e
-  where
-    go : (b : Bool) → nat_lt left first ≡ b → cond b None (Some (left - first)) ≡ None → spent left (first + second) ≡ None
-    go true h f = let over : nat_lt left (first + second) ≡ true = grind (arith, nat_tests) in ap (λ x. cond x None (Some (left - (first + second)))) over
-    go false h f = cc
-
 -- what is left and what was spent are together the amount
 pub paid : (left cost rest : ℕ) → spent left cost ≡ Some rest → rest + cost ≡ left
 paid left cost rest e = go (nat_lt left cost) refl e
@@ -108,7 +101,8 @@ drop_all : {X : Type 0} (xs : List X) → drop (length xs) xs ≡ []
 drop_all [] = refl
 drop_all (x ∷ xs) = drop_all xs
 
-pub pay_end : {X : Type 0} (cost : X → ℕ) (xs : List X) (i left amount : ℕ) → i ≡ length xs → left + sum_by cost xs ≡ amount + sum_by cost (drop i xs) → left + sum_by cost xs ≡ amount
+pub pay_end : {X : Type 0} (cost : X → ℕ) (xs : List X) (i left amount : ℕ) → i ≡ length xs → left + sum_by cost xs ≡ amount + sum_by cost (drop i xs)
+    → left + sum_by cost xs ≡ amount
 pay_end cost xs i left amount end going =
     let none : sum_by cost (drop i xs) ≡ 0 = ap (λ k. sum_by cost (drop k xs)) end ∙ ap (sum_by cost) (drop_all xs) in omega (arith, none, going)
 

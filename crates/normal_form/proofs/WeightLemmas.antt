@@ -88,7 +88,8 @@ module _ (graph : Graph) (query : CheckedQuery) where
       (path_blocks graph place (path_at query place)) ≡ map (with_cost graph query) (path_blocks graph place (path_at query place))
   own_costs place =
       let path = path_at query place in
-      same_images (λ block. (block, counted (cost_among several path (path_blocks graph place path) block))) (with_cost graph query) (block_of graph path place) (λ shape. refl) (shapes graph path)
+      same_images (λ block. (block, counted (cost_among several path (path_blocks graph place path) block))) (with_cost graph query) (block_of graph path place) (λ shape. refl)
+      (shapes graph path)
 
   costs_from : (paths : List CheckedPath) (i : ℕ) → ((j : ℕ) (d : CheckedPath) → j < length paths → path_at query (i + j) ≡ get_or paths j d)
       → with_costs several paths (map (λ numbered. path_blocks graph numbered.0 numbered.1) (enumerate_from i paths))
@@ -103,9 +104,6 @@ module _ (graph : Graph) (query : CheckedQuery) where
     where
       shifted : {X : Type 0} (x : X) (xs : List X) (j : ℕ) (d : X) → get_or (x ∷ xs) (j + 1) d ≡ get_or xs j d
       shifted x xs j d = let e : j + 1 ≡ suc j = omega arith in ap (λ k. get_or (x ∷ xs) k d) e
-
-  none : CheckedPath
-  none = path_at query (length query.paths)
 
   inside_any : {X : Type 0} (xs : List X) (j : ℕ) (d e : X) → j < length xs → slice_index_or xs j e ≡ get_or xs j d
   inside_any [] j d e h = absurd (omega arith)
@@ -125,7 +123,8 @@ module _ (graph : Graph) (query : CheckedQuery) where
       let sizes : PathBlock → ℕ = λ part. cond several (block_size (path_at query part.path) part) 0 in
       let size : PathBlock → ℕ = λ part. block_size (path_at query part.path) part in
       let costs : counted (costs_along (map (with_cost graph query) parts)) ≡ counted (sum_by own parts) =
-      ap counted (sum_of_map (λ (part : BlockCost). part.1) (with_cost graph query) parts) ∙ counted_alike (λ part. counted (own part)) own (λ part. counted_again (own part)) parts in
+      ap counted (sum_of_map (λ (part : BlockCost). part.1) (with_cost graph query) parts)
+      ∙ counted_alike (λ part. counted (own part)) own (λ part. counted_again (own part)) parts in
       let split : sum_by own parts ≡ cond several (sum_by size parts) 0 + sum_by (shortest_weight graph query) parts =
       sum_of_both sizes (shortest_weight graph query) parts ∙ ap (λ n. n + sum_by (shortest_weight graph query) parts) (sum_if several size parts) in
       ap (λ n. counted (n + costs_along (map (with_cost graph query) parts))) a
@@ -166,7 +165,8 @@ module _ (graph : Graph) (query : CheckedQuery) where
         ∙ counted_alike (λ parts. own (map (with_cost graph query) parts)) whole (row_is answer a) shared
         ∙ sym (ap counted (sum_of_map (block_weight graph query) (λ (parts : List PathBlock). record { paths = parts }) shared)) in
         sym (spent_counted amount (payment names lists + sum_by own (joined names lists)) few)
-        ∙ ap (spent amount) (sym (sum_right (payment names lists) (sum_by own (joined names lists))) ∙ ap₂ (λ p r. counted (p + r)) (payment_is graph query names same lists alone) rows
+        ∙ ap (spent amount) (sym (sum_right (payment names lists) (sum_by own (joined names lists)))
+        ∙ ap₂ (λ p r. counted (p + r)) (payment_is graph query names same lists alone) rows
         ∙ sum_right (join_weight graph query) (sum_by (block_weight graph query) (blocks graph query))
         ∙ ap counted (swapped (join_weight graph query) (sum_by (block_weight graph query) (blocks graph query))))
         ∙ spent_counted amount (sum_by (block_weight graph query) (blocks graph query) + join_weight graph query) few
@@ -205,11 +205,8 @@ bought names lists answer amount None some h =
     let same = mul_comm answer count in omega (arith, h, more, same)
 bought names lists answer amount (Some all) some h = record { rows = h.rows; left = paid amount (payment names lists) all.left h.left }
 
--- what was paid of the greatest number
-pub paid_of_all : (limit payment left : ℕ) → spent limit payment ≡ Some left → limit - left ≡ payment
-paid_of_all limit payment left e = let sum = paid limit payment left e in omega (arith, sum)
-
-pub seen_end : (done : List (List Costed)) (own : List Costed) (more : List (List Costed)) → more ≡ done ++ own ∷ [] → map (map seen) more ≡ map (map seen) done ++ map seen own ∷ []
+pub seen_end : (done : List (List Costed)) (own : List Costed) (more : List (List Costed)) → more ≡ done ++ own ∷ []
+    → map (map seen) more ≡ map (map seen) done ++ map seen own ∷ []
 seen_end done own more is = ap (map (map seen)) is ∙ map-parts (map seen) done (own ∷ [])
 
 -- ---- the whole weight
@@ -249,7 +246,8 @@ module _ (limit : ℕ) (graph element : Graph) (query : CheckedQuery) (paths : L
       let rest = unpaid left joins_weight e in
       let over : limit < weight_in graph query = let is = assignments in omega (arith, is, h, rest) in sym (above_limit limit (weight_in graph query) over)
 
-  pub all_paid : (left rest : ℕ) → left + sum_by (assignments_weight element) paths ≡ limit → spent left joins_weight ≡ Some rest → Some (limit - rest) ≡ at_most limit (weight_in graph query)
+  pub all_paid : (left rest : ℕ) → left + sum_by (assignments_weight element) paths ≡ limit → spent left joins_weight ≡ Some rest
+      → Some (limit - rest) ≡ at_most limit (weight_in graph query)
   all_paid left rest h e =
       let sum = paid left joins_weight rest e in
       let whole : rest + weight_in graph query ≡ limit = let is = assignments in omega (arith, is, h, sum) in sym (spent_of_limit limit rest (weight_in graph query) whole)

@@ -81,6 +81,9 @@ fn with_part_nodes(conditions: &[Expr<PropertyLeaf>], count: u32, below: u64) ->
     ensures { (pieces : Seq PieceTree) (rest : Seq Iteration) → below ≡ counted (nodes_in rest)
         → result ≡ counted (nodes_in (replicate count (record { pieces = pieces; conditions = conditions.now }) ++ rest)) }
 {
+    if count == 0 {
+        return below;
+    }
     let own = nodes_of(conditions);
     sum(product(count as u64, own), below)
 }

@@ -1,7 +1,7 @@
-use crate::path_blocks;
+use crate::{blocks, path_blocks};
 use graph_ast::{
-    Catalog, CheckedPath, CheckedQuery, Direction, EdgeElement, Element, End, Graph, LabelExpr,
-    Mode, Named, Operand, PathBlock, Pattern, Piece, Step,
+    Block, Catalog, CheckedPath, CheckedQuery, Direction, EdgeElement, Element, End, Graph,
+    LabelExpr, Mode, Named, Operand, PathBlock, Pattern, Piece, Step,
 };
 use pgq_base::{List, Name, NoMemory, Span};
 use std::alloc::Global;
@@ -79,7 +79,7 @@ fn both_ways(alloc: Global) -> Result<Graph, NoMemory> {
     graph(alloc, vertices, edges)
 }
 
-fn catalog(alloc: Global) -> Result<Catalog, NoMemory> {
+pub(crate) fn catalog(alloc: Global) -> Result<Catalog, NoMemory> {
     let mut graphs = List::new(alloc);
     graphs.push(loops(alloc, &["p"])?)?;
     graphs.push(loops(alloc, &["p", "q"])?)?;
@@ -92,7 +92,7 @@ fn catalog(alloc: Global) -> Result<Catalog, NoMemory> {
 
 // A vertex pattern, or an edge pattern of a direction, or what stands between operands.
 #[derive(Clone, Copy, PartialEq, Eq)]
-enum Kind {
+pub(crate) enum Kind {
     Vertex,
     Right,
     Left,
@@ -103,7 +103,7 @@ enum Kind {
 
 // An element pattern with its variable and its label, each empty where there is none, and the bounds of
 // its quantifier, which are 0 where there is none.
-type Mark = (Kind, &'static str, &'static str, u32, u32);
+pub(crate) type Mark = (Kind, &'static str, &'static str, u32, u32);
 
 const X: Mark = (Kind::Vertex, "x", "", 0, 0);
 
@@ -132,6 +132,8 @@ const EDGE: Mark = (Kind::Any, "e", "", 0, 0);
 const E_TWO: Mark = (Kind::Right, "e", "", 1, 2);
 
 const F_TWO: Mark = (Kind::Right, "f", "", 1, 2);
+
+const STEP: Mark = (Kind::Right, "", "", 0, 0);
 
 const TWO: Mark = (Kind::Right, "", "", 1, 2);
 
@@ -165,7 +167,7 @@ fn piece(kind: Kind, pattern: Pattern) -> Piece {
     }
 }
 
-fn step(alloc: Global, mark: Mark) -> Result<Step, NoMemory> {
+pub(crate) fn step(alloc: Global, mark: Mark) -> Result<Step, NoMemory> {
     let (kind, variable, label, lower, upper) = mark;
     let piece = piece(kind, pattern(alloc, variable, label)?);
     if upper == 0 {
@@ -181,7 +183,7 @@ fn step(alloc: Global, mark: Mark) -> Result<Step, NoMemory> {
     })
 }
 
-fn operand(alloc: Global, steps: List<Step>) -> Operand {
+pub(crate) fn operand(alloc: Global, steps: List<Step>) -> Operand {
     Operand {
         steps,
         conditions: List::new(alloc),
@@ -319,6 +321,137 @@ fn blocks_of_patterns(rt: HostRuntime) -> Result<(), Fail> {
     let catalog = catalog(alloc)?;
     for case in &CASES {
         try_case(&rt, alloc, &catalog, case)?;
+    }
+    Ok(())
+}
+
+fn query_of(
+    alloc: Global,
+    graph: u32,
+    patterns: &[&'static [Mark]],
+) -> Result<CheckedQuery, NoMemory> {
+    let mut paths = List::new(alloc);
+    for marks in patterns {
+        paths.push(path(alloc, *marks)?)?;
+    }
+    Ok(CheckedQuery {
+        graph,
+        paths,
+        condition: None,
+        columns: List::new(alloc),
+        weight: 0,
+    })
+}
+
+fn graph_blocks_in(
+    rt: &impl Abort,
+    alloc: Global,
+    catalog: &Catalog,
+    query: &CheckedQuery,
+) -> Result<List<Block>, NoMemory> {
+    assert!(rt; (query.graph as usize) < catalog.graphs.as_slice().len());
+    let graph = &catalog.graphs.as_slice()[query.graph as usize];
+    assert!(rt; graph.vertices.as_slice().len() < FEW);
+    assert!(rt; graph.edges.as_slice().len() < FEW);
+    let paths = query.paths.as_slice();
+    assert!(rt; paths.len() < FEW);
+    assert!(rt;
+        paths
+            .iter()
+            .all(|path| path.operands.as_slice().len() < FEW)
+    );
+    blocks(alloc, catalog, query)
+}
+
+type Join = (
+    u32,
+    &'static [&'static [Mark]],
+    usize,
+    &'static [&'static [u32]],
+);
+
+// A graph and some path patterns; the number of graph blocks, and the elements of the last one.
+static JOINS: [Join; 16] = [
+    (2, &[&[X, E, Y]], 3, &[&[1, 1, 0]]),
+    (2, &[&[X, E, Y], &[Y, F, Z]], 5, &[&[1, 1, 0], &[0, 2, 0]]),
+    (2, &[&[X, E, Y], &[ANY, F, Z]], 9, &[&[1, 1, 0], &[1, 1, 0]]),
+    (2, &[&[X, E, Y], &[Y, F, X]], 3, &[&[1, 1, 0], &[0, 0, 1]]),
+    (
+        2,
+        &[&[X, E, Y], &[Z, BACK, X]],
+        3,
+        &[&[1, 1, 0], &[0, 1, 1]],
+    ),
+    (
+        2,
+        &[&[X, E, Y], &[Y, F, Z], &[Z, STEP, X]],
+        4,
+        &[&[1, 1, 0], &[0, 2, 0], &[0, 0, 1]],
+    ),
+    (
+        2,
+        &[&[X, E, Y], &[Y, F, Z], &[Z, STEP, YB]],
+        1,
+        &[&[0, 0, 1], &[1, 1, 0], &[0, 0, 1]],
+    ),
+    (2, &[&[XB, E, Y], &[X, EP, YB]], 0, &[]),
+    (2, &[&[XB, E, X], &[ANY]], 0, &[]),
+    (2, &[&[ANY], &[XB, E, X]], 0, &[]),
+    (2, &[&[X], &[Y]], 4, &[&[1], &[1]]),
+    (2, &[&[X], &[X], &[X]], 2, &[&[1], &[1], &[1]]),
+    (
+        1,
+        &[&[X, E_TWO, Y], &[Y, F_TWO, X]],
+        36,
+        &[&[0, 1, 0, 1, 0], &[0, 1, 0, 1, 0]],
+    ),
+    (
+        2,
+        &[&[X, E, Y, OR, X, BACK, Y], &[Y, F, X], &[X, TWO, Z]],
+        21,
+        &[&[1, 0, 0], &[0, 0, 1], &[1, 1, 0, 2, 0]],
+    ),
+    (
+        2,
+        &[&[X, E, Y, F, Z], &[Z, STEP, X], &[X, TWO, Z]],
+        10,
+        &[&[1, 1, 0, 2, 0], &[0, 0, 1], &[1, 1, 0, 2, 0]],
+    ),
+    // The variable of one operand alone joins none of the other operand's blocks.
+    (2, &[&[X, OR, Y], &[X]], 6, &[&[1], &[1]]),
+];
+
+fn try_elements(rt: &impl Abort, block: &Block, elements: &[&'static [u32]]) {
+    let parts = block.paths.as_slice();
+    assert!(rt; parts.len() == elements.len());
+    for i in 0..parts.len() {
+        assert!(rt; parts[i].path as usize == i);
+        assert!(rt; parts[i].elements.as_slice() == elements[i]);
+    }
+}
+
+fn try_join(
+    rt: &impl Abort,
+    alloc: Global,
+    catalog: &Catalog,
+    join: &Join,
+) -> Result<(), NoMemory> {
+    let (graph, patterns, count, last) = *join;
+    let found = graph_blocks_in(rt, alloc, catalog, &query_of(alloc, graph, patterns)?)?;
+    let all = found.as_slice();
+    assert!(rt; all.len() == count);
+    if let Some(block) = all.last() {
+        try_elements(rt, block, last);
+    }
+    Ok(())
+}
+
+#[test]
+fn blocks_of_queries(rt: HostRuntime) -> Result<(), Fail> {
+    let alloc = rt.alloc();
+    let catalog = catalog(alloc)?;
+    for join in &JOINS {
+        try_join(&rt, alloc, &catalog, join)?;
     }
     Ok(())
 }

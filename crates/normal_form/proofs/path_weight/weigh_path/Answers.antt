@@ -12,7 +12,9 @@ pub returns-in-None : goal.returns-in-None
 returns-in-None c =
     let graph = c.args.graph.now in
     let path = c.args.path.now in
-    let over : c.args.amount < sum_by (choice_weight graph path) (choices path) = subst (λ (o : Option Gathering). IsGathered c.args.amount (sum_by (choice_weight graph path) (choices path)) (gathered c.args.place (findings graph path)) o) c.in-None.is c.in_ok-weigh_choices.ensures in
+    let over : c.args.amount < sum_by (choice_weight graph path) (choices path) = subst
+    (λ (o : Option Gathering). IsGathered c.args.amount (sum_by (choice_weight graph path) (choices path)) (gathered c.args.place (findings graph path)) o) c.in-None.is
+    c.in_ok-weigh_choices.ensures in
     subst (λ (n : ℕ). c.args.amount < n) (path_weight_is graph path) over
 
 pub returns : goal.returns
@@ -20,7 +22,8 @@ returns c =
     let graph = c.args.graph.now in
     let path = c.args.path.now in
     let all : IsGathering c.args.amount (sum_by (choice_weight graph path) (choices path)) (gathered c.args.place (findings graph path)) c.in-Some.gathering = subst
-    (λ (o : Option Gathering). IsGathered c.args.amount (sum_by (choice_weight graph path) (choices path)) (gathered c.args.place (findings graph path)) o) c.in-Some.is c.in_ok-weigh_choices.ensures in
+    (λ (o : Option Gathering). IsGathered c.args.amount (sum_by (choice_weight graph path) (choices path)) (gathered c.args.place (findings graph path)) o)
+    c.in-Some.is c.in_ok-weigh_choices.ensures in
     record {
       left = subst (λ (n : ℕ). c.in-Some.gathering.left + n ≡ c.args.amount) (path_weight_is graph path) all.left;
       blocks = c.into_blocks.ensures ∙ all.blocks ∙ blocks_gathered graph path c.args.place;

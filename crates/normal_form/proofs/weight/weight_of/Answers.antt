@@ -23,10 +23,12 @@ numbered_blocks graph paths = map (λ numbered. path_blocks graph numbered.0 num
 
 -- what the assignments of all path patterns leave, or that they leave nothing
 weighed_all : (graph : Graph) (paths : List CheckedPath) (found : Lists) (o : Option Lists) → o ≡ Some found
-    → AreWeighed 1000000 (sum_by (assignments_weight graph) paths) (numbered_blocks graph paths) o → HasLists 1000000 (sum_by (assignments_weight graph) paths) (numbered_blocks graph paths) found
+    → AreWeighed 1000000 (sum_by (assignments_weight graph) paths) (numbered_blocks graph paths) o
+    → HasLists 1000000 (sum_by (assignments_weight graph) paths) (numbered_blocks graph paths) found
 weighed_all graph paths found o is h = subst (λ (x : Option Lists). AreWeighed 1000000 (sum_by (assignments_weight graph) paths) (numbered_blocks graph paths) x) is h
 
-there_is : (graphs : List Graph) (place : ℕ) (found : Graph) (listed : List Graph) (d : Graph) → found ≡ get_or listed place found → listed ≡ graphs → place < length graphs → found ≡ get_or graphs place d
+there_is : (graphs : List Graph) (place : ℕ) (found : Graph) (listed : List Graph) (d : Graph) → found ≡ get_or listed place found → listed ≡ graphs → place < length graphs
+    → found ≡ get_or graphs place d
 there_is graphs place found listed d is same inside = is ∙ ap (λ (l : List Graph). get_or l place found) same ∙ get_any graphs place found d inside
 
 pub returns-in-None : goal.returns-in-None
