@@ -1,5 +1,6 @@
 use Rattle.std.proofs.Common.{◌-◌, ◌≤◌, length, Ok, Err, refl, sym, subst, arith}
-use Rattle.pattern_parser.proofs.Whole.{ok, shallow, left_short, first, span_in_text, one_outcome}
+use Rattle.token_reading.proofs.RefusalLemmas.{span_in_text}
+use Rattle.pattern_parser.proofs.Whole.{ok, shallow, left_short, first, one_outcome}
 use Rattle.pattern_parser.proofs.QuerySpans.{spans_lie}
 use Rattle.sql_lexer.specs.Spans.{LiesIn}
 use Rattle.pattern_parser.proofs.parsing.parse_query.Goals as goal
