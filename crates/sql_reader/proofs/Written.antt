@@ -74,7 +74,8 @@ module _ (catalog : Catalog) (reach : s.Reach) where
   class_again : (l : ColumnRef) → item_class catalog l.column.name (find (λ item. bytes_eq item.alias l.alias.name) reach) ≡ t.leaf_class seen l
   class_again l = sym (ap (class_at l) (find_reached catalog l.alias.name reach) ∙ in_item catalog l (find (λ item. bytes_eq item.alias l.alias.name) reach))
 
-  each : (x : Expr-F ColumnRef (Expr ColumnLeaf)) → mapped again (map_step told x) ≡ map_step (leaf_made seen) (map-Expr ColumnRef (Expr ColumnLeaf) (Expr ColumnLeaf) (mapped again) x)
+  each : (x : Expr-F ColumnRef (Expr ColumnLeaf))
+      → mapped again (map_step told x) ≡ map_step (leaf_made seen) (map-Expr ColumnRef (Expr ColumnLeaf) (Expr ColumnLeaf) (mapped again) x)
   each (Expr-F.Lit v) = mapped-Lit again (e.Lit v) v refl
   each (Expr-F.Null k) = mapped-Null again (e.Null k) k refl
   each (Expr-F.Leaf l) = mapped-Leaf again (told l) _ refl ∙ ap (leaf_with l) (class_again l)
@@ -90,7 +91,8 @@ module _ (catalog : Catalog) (reach : s.Reach) where
   value_back : (v : Spanned ColumnRef) (x : Expr ColumnLeaf) → value_is_sound catalog reach x ≡ true → told_value v ≡ bare_value x → value_made seen v ≡ x
   value_back v x h same = sym (fused (mapped again) (map_step told) (map_step (leaf_made seen)) each v.tree) ∙ ap (mapped again) same ∙ value_again catalog reach x h
 
-  members_back : (vs : List (Spanned ColumnRef)) (xs : List (Expr ColumnLeaf)) → list_all (condition_is_sound catalog reach) xs ≡ true → map told_value vs ≡ map bare_value xs → map (value_made seen) vs ≡ xs
+  members_back : (vs : List (Spanned ColumnRef)) (xs : List (Expr ColumnLeaf)) → list_all (condition_is_sound catalog reach) xs ≡ true → map told_value vs ≡ map bare_value xs
+      → map (value_made seen) vs ≡ xs
   members_back [] [] h same = refl
   members_back [] (x ∷ xs) h same = absurd cc
   members_back (v ∷ vs) [] h same = absurd cc
@@ -100,14 +102,16 @@ module _ (catalog : Catalog) (reach : s.Reach) where
       (heads (told_value v) (bare_value x) (map told_value vs) (map bare_value xs) same))
       ∙ ap (λ l. x ∷ l) (members_back vs xs p.1 (tails (told_value v) (bare_value x) (map told_value vs) (map bare_value xs) same))
 
-  on_back : (o : Option (List (Spanned ColumnRef))) (u : Option (List (Expr ColumnLeaf))) → on_is_sound catalog reach u ≡ true → option_map (map told_value) o ≡ option_map (map bare_value) u
+  on_back : (o : Option (List (Spanned ColumnRef))) (u : Option (List (Expr ColumnLeaf))) → on_is_sound catalog reach u ≡ true
+      → option_map (map told_value) o ≡ option_map (map bare_value) u
       → option_map (map (value_made seen)) o ≡ u
   on_back None None h same = refl
   on_back None (Some xs) h same = absurd cc
   on_back (Some vs) None h same = absurd cc
   on_back (Some vs) (Some xs) h same = let inner : map told_value vs ≡ map bare_value xs = cc in ap Some (members_back vs xs h inner)
 
-  columns_back : (vs : List ColumnText) (xs : List SelectColumn) → list_all (λ (k : SelectColumn). value_is_sound catalog reach k.value) xs ≡ true → map told_column vs ≡ map bare_column xs → map (column_made seen) vs ≡ xs
+  columns_back : (vs : List ColumnText) (xs : List SelectColumn) → list_all (λ (k : SelectColumn). value_is_sound catalog reach k.value) xs ≡ true
+      → map told_column vs ≡ map bare_column xs → map (column_made seen) vs ≡ xs
   columns_back [] [] h same = refl
   columns_back [] (x ∷ xs) h same = absurd cc
   columns_back (v ∷ vs) [] h same = absurd cc
@@ -126,7 +130,8 @@ module _ (catalog : Catalog) where
       ap (λ a. let z : Placed = record { alias = a; table = table_named catalog i.table.name } in z) (ap (λ (k : FromItem). k.alias) same)
       ∙ ap (λ n. let z : Placed = record { alias = x.alias; table = table_named catalog n } in z) (ap (λ (k : FromItem). k.table) same)
 
-  chain_back : (before : s.Reach) (i : ItemText) (x : FromItem) → placed catalog i ≡ item_reached catalog x → (o : Option (List (Spanned ColumnRef))) (u : Option (List (Expr ColumnLeaf)))
+  chain_back : (before : s.Reach) (i : ItemText) (x : FromItem) → placed catalog i ≡ item_reached catalog x
+      → (o : Option (List (Spanned ColumnRef))) (u : Option (List (Expr ColumnLeaf)))
       → option_map (map told_value) o ≡ option_map (map bare_value) u → chain_to catalog (reached catalog before) i o ≡ reached catalog (s.chain_to before x u)
   chain_back before i x at None None same = ap (λ p. p ∷ []) at
   chain_back before i x at None (Some xs) same = absurd cc
@@ -159,7 +164,8 @@ module _ (catalog : Catalog) where
   -- ---- conjuncts and selects
 
   abbrev ConjunctBack : ConjunctText → Type 0
-  ConjunctBack k = (reach : s.Reach) (x : Conjunct) → conjunct_sound catalog x reach ≡ true → told_conjunct k ≡ bare_conjunct x → conjunct_made catalog k (reached catalog reach) ≡ x
+  ConjunctBack k = (reach : s.Reach) (x : Conjunct) → conjunct_sound catalog x reach ≡ true → told_conjunct k ≡ bare_conjunct x
+      → conjunct_made catalog k (reached catalog reach) ≡ x
 
   abbrev SelectBack : SelectText → Type 0
   SelectBack k = (outer : s.Reach) (x : Select) → s.select_is_sound catalog x outer ≡ true → told_select k ≡ bare_select x → select_made catalog k (reached catalog outer) ≡ x
@@ -189,10 +195,12 @@ module _ (catalog : Catalog) where
   select_tells x = told_select_step (map-SelectText ConjunctText SelectText Conjunct Select told_conjunct told_select x)
 
   abbrev ConjunctLayer : ConjunctText-F ConjunctText SelectText → Type 0
-  ConjunctLayer x = (reach : s.Reach) (o : Conjunct-F Conjunct Select) → sound_conjunct catalog o reach ≡ true → conjunct_tells x ≡ bare_of_conjunct catalog o → conjunct_makes x (reached catalog reach) ≡ roll-Conjunct o
+  ConjunctLayer x = (reach : s.Reach) (o : Conjunct-F Conjunct Select) → sound_conjunct catalog o reach ≡ true → conjunct_tells x ≡ bare_of_conjunct catalog o
+      → conjunct_makes x (reached catalog reach) ≡ roll-Conjunct o
 
   abbrev SelectLayer : SelectText-F ConjunctText SelectText → Type 0
-  SelectLayer x = (outer : s.Reach) (o : Select-F Conjunct Select) → sound_select catalog o outer ≡ true → select_tells x ≡ bare_of_select catalog o → select_makes x (reached catalog outer) ≡ roll-Select o
+  SelectLayer x = (outer : s.Reach) (o : Select-F Conjunct Select) → sound_select catalog o outer ≡ true → select_tells x ≡ bare_of_select catalog o
+      → select_makes x (reached catalog outer) ≡ roll-Select o
 
   shown_plain : (x : Expr ColumnLeaf) (y : Conjunct) → c.Plain x ≡ y → Conjunct-F.Plain x ≡ out-Conjunct y
   shown_plain x y h = sym (c.outs-Plain x) ∙ ap out-Conjunct h
@@ -206,17 +214,21 @@ module _ (catalog : Catalog) where
       let inner : told_value v ≡ bare_value x = cc in
       ap c.Plain (value_back catalog reach v x (both (value_is_sound catalog reach x) (same_class Truth (class_in leaf_class x)) h).0 inner) ∙ sym (c.rolls-Plain x)
   conjunct_node (ConjunctText-F.Plain v) reach (Conjunct-F.NotExists x) h same =
-      let layers : Conjunct-F.Plain (told_value v) ≡ Conjunct-F.NotExists (bare_select x) = shown_plain (told_value v) (c.NotExists (bare_select x)) same ∙ c.outs-NotExists (bare_select x) in
+      let layers : Conjunct-F.Plain (told_value v) ≡ Conjunct-F.NotExists (bare_select x) = shown_plain (told_value v) (c.NotExists (bare_select x)) same
+      ∙ c.outs-NotExists (bare_select x) in
       absurd cc
   conjunct_node (ConjunctText-F.NotExists k) reach (Conjunct-F.Plain x) h same =
-      let layers : Conjunct-F.NotExists (told_select k.0) ≡ Conjunct-F.Plain (bare_value x) = shown_exists (told_select k.0) (c.Plain (bare_value x)) same ∙ c.outs-Plain (bare_value x) in
+      let layers : Conjunct-F.NotExists (told_select k.0) ≡ Conjunct-F.Plain (bare_value x) = shown_exists (told_select k.0) (c.Plain (bare_value x)) same
+      ∙ c.outs-Plain (bare_value x) in
       absurd cc
   conjunct_node (ConjunctText-F.NotExists k) reach (Conjunct-F.NotExists x) h same =
-      let layers : Conjunct-F.NotExists (told_select k.0) ≡ Conjunct-F.NotExists (bare_select x) = shown_exists (told_select k.0) (c.NotExists (bare_select x)) same ∙ c.outs-NotExists (bare_select x) in
+      let layers : Conjunct-F.NotExists (told_select k.0) ≡ Conjunct-F.NotExists (bare_select x) = shown_exists (told_select k.0) (c.NotExists (bare_select x)) same
+      ∙ c.outs-NotExists (bare_select x) in
       let inner : told_select k.0 ≡ bare_select x = cc in
       ap c.NotExists (k.1 reach x h inner) ∙ sym (c.rolls-NotExists x)
 
-  conjuncts_back : (reach : s.Reach) (ks : List OneConjunct) (xs : List Conjunct) → all_sound catalog reach xs ≡ true → map told_conjunct (map conjunct_of ks) ≡ map bare_conjunct xs
+  conjuncts_back : (reach : s.Reach) (ks : List OneConjunct) (xs : List Conjunct) → all_sound catalog reach xs ≡ true
+      → map told_conjunct (map conjunct_of ks) ≡ map bare_conjunct xs
       → map (λ (f : Reach → Conjunct). f (reached catalog reach)) (map (conjunct_made catalog) (map conjunct_of ks)) ≡ xs
   conjuncts_back reach [] [] h same = refl
   conjuncts_back reach [] (x ∷ xs) h same = absurd cc
@@ -250,18 +262,27 @@ module _ (catalog : Catalog) where
       let o = out-Conjunct y in
       let back : roll-Conjunct o ≡ y = roll-out-Conjunct y in
       let layer = subst ConjunctLayer is (conjunct_node z) in
-      let sound : sound_conjunct catalog o reach ≡ true = ap (λ (f : s.Reach → Bool). f reach) (sym (fold-roll-Conjunct (s.Reach → Bool) (s.Reach → Bool) (s.conjunct_step catalog) (s.select_step catalog) o)) ∙ ap (λ w. conjunct_sound catalog w reach) back ∙ h in
-      let told : conjunct_tells x ≡ bare_of_conjunct catalog o = sym (fold-roll-ConjunctText Conjunct Select told_conjunct_step told_select_step x) ∙ same ∙ ap bare_conjunct (sym back) ∙ fold-roll-Conjunct Conjunct Select bare_conjunct_step bare_select_step o in
-      ap (λ (f : Reach → Conjunct). f (reached catalog reach)) (fold-roll-ConjunctText (Reach → Conjunct) (Reach → Select) queries.conjunct_step (queries.select_step catalog) x) ∙ layer reach o sound told ∙ back)
+      let sound : sound_conjunct catalog o reach ≡ true = ap (λ (f : s.Reach
+      → Bool). f reach) (sym (fold-roll-Conjunct (s.Reach → Bool) (s.Reach → Bool) (s.conjunct_step catalog) (s.select_step catalog) o))
+      ∙ ap (λ w. conjunct_sound catalog w reach) back ∙ h in
+      let told : conjunct_tells x ≡ bare_of_conjunct catalog o = sym (fold-roll-ConjunctText Conjunct Select told_conjunct_step told_select_step x) ∙ same
+      ∙ ap bare_conjunct (sym back) ∙ fold-roll-Conjunct Conjunct Select bare_conjunct_step bare_select_step o in
+      ap (λ (f : Reach → Conjunct). f (reached catalog reach)) (fold-roll-ConjunctText (Reach → Conjunct) (Reach
+      → Select) queries.conjunct_step (queries.select_step catalog) x) ∙ layer reach o sound told ∙ back)
       (λ x z is outer y h same.
       let o = out-Select y in
       let back : roll-Select o ≡ y = roll-out-Select y in
       let layer = subst SelectLayer is (select_node z) in
-      let sound : sound_select catalog o outer ≡ true = ap (λ (f : s.Reach → Bool). f outer) (sym (fold-roll-Select (s.Reach → Bool) (s.Reach → Bool) (s.conjunct_step catalog) (s.select_step catalog) o)) ∙ ap (λ w. s.select_is_sound catalog w outer) back ∙ h in
-      let told : select_tells x ≡ bare_of_select catalog o = sym (fold-roll-SelectText Conjunct Select told_conjunct_step told_select_step x) ∙ same ∙ ap bare_select (sym back) ∙ fold-roll-Select Conjunct Select bare_conjunct_step bare_select_step o in
-      ap (λ (f : Reach → Select). f (reached catalog outer)) (fold-roll-SelectText (Reach → Conjunct) (Reach → Select) queries.conjunct_step (queries.select_step catalog) x) ∙ layer outer o sound told ∙ back)
+      let sound : sound_select catalog o outer ≡ true = ap (λ (f : s.Reach
+      → Bool). f outer) (sym (fold-roll-Select (s.Reach → Bool) (s.Reach → Bool) (s.conjunct_step catalog) (s.select_step catalog) o))
+      ∙ ap (λ w. s.select_is_sound catalog w outer) back ∙ h in
+      let told : select_tells x ≡ bare_of_select catalog o = sym (fold-roll-SelectText Conjunct Select told_conjunct_step told_select_step x) ∙ same ∙ ap bare_select (sym back)
+      ∙ fold-roll-Select Conjunct Select bare_conjunct_step bare_select_step o in
+      ap (λ (f : Reach → Select). f (reached catalog outer)) (fold-roll-SelectText (Reach → Conjunct) (Reach → Select) queries.conjunct_step (queries.select_step catalog) x)
+      ∙ layer outer o sound told ∙ back)
 
-  selects_back : (ts : List SelectText) (xs : List Select) → list_all (λ x. s.select_is_sound catalog x []) xs ≡ true → map told_select ts ≡ map bare_select xs → map (λ k. select_made catalog k []) ts ≡ xs
+  selects_back : (ts : List SelectText) (xs : List Select) → list_all (λ x. s.select_is_sound catalog x []) xs ≡ true → map told_select ts ≡ map bare_select xs
+      → map (λ k. select_made catalog k []) ts ≡ xs
   selects_back [] [] h same = refl
   selects_back [] (x ∷ xs) h same = absurd cc
   selects_back (k ∷ ts) [] h same = absurd cc
