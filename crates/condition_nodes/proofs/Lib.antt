@@ -1,2 +1,3 @@
+pub mod GatheredLists
 pub mod LiteralKinds
 pub mod FirstLiterals

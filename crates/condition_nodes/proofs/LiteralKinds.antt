@@ -11,7 +11,7 @@ use Rattle.sql_lexer.specs.declared.token.Kind.{Kind}
 use Rattle.sql_lexer.specs.declared.token.Kind.TheVariants as k
 use Rattle.token_marks.specs.declared.mark.Mark.{Mark}
 use Rattle.token_marks.specs.declared.mark.Mark.TheVariants as m
-use Rattle.token_marks.specs.Marks.{text_of, bare_marks, reserved_marks, symbol_marks, bare_mark, bare_mark_at, mark_at, kind_mark, number_of}
+use Rattle.token_marks.specs.Marks.{text_of, bare_marks, reserved_marks, symbol_marks, bare_mark, bare_mark_at, kind_mark, number_of}
 use Rattle.token_grammar.proofs.Tests.{and_left, and_right}
 use Rattle.condition_grammar.specs.Classes.{is_numeral, is_negatable, is_text, is_date_literal}
 use Rattle.condition_grammar.specs.Dates.{date_value}

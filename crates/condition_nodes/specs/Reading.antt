@@ -1,5 +1,5 @@
 -- The parsers that the code follows, over any leaves, and what it gives.
-use Rattle.std.specs.Prelude.{◌≡◌, ℕ, ◌==◌, cond, List, Option, None, Result, Ok, Err}
+use Rattle.std.specs.Prelude.{◌≡◌, ℕ, ◌==◌, cond, List, None, Result, Ok, Err}
 use Rattle.pgq_base.specs.declared.refusal.Span.{Span}
 use Rattle.sql_lexer.specs.declared.token.Token.{Token}
 use Rattle.token_marks.specs.declared.mark.Mark.TheVariants as m

@@ -1,5 +1,5 @@
 -- What makes a test of an operand, kept as what it is made of.
-use Rattle.std.specs.Prelude.{Bool, List, ◌∷◌, ◌++◌, option_map}
+use Rattle.std.specs.Prelude.{Bool, ◌∷◌, ◌++◌, option_map}
 use Rattle.pgq_base.specs.declared.refusal.Span.{Span}
 use Rattle.expr_tree.specs.declared.tree.Comparison.{Comparison}
 use Rattle.expr_tree.specs.declared.tree.Expr.TheVariants.{InList}

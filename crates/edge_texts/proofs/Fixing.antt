@@ -1,5 +1,5 @@
 -- Slots that are filled one by one.
-use Rattle.std.proofs.Common.{◌≡◌, ℕ, ◌<◌, List, [], ◌∷◌, Option, None, length, drop, map, refl, ap, ◌∙◌, arith, length-drop}
+use Rattle.std.proofs.Common.{◌≡◌, ℕ, ◌<◌, List, [], ◌∷◌, Option, None, length, drop, map, refl, ◌∙◌, arith, length-drop}
 use Rattle.std.specs.Prelude.{slice_get}
 use Rattle.edge_texts.specs.declared.token.Token.{Token}
 use Rattle.edge_texts.specs.declared.form.Item.{Item}

@@ -1,12 +1,10 @@
 -- A proper graph has names apart.
-use Rattle.std.proofs.Common.{◌≡◌, ◌≢◌, ℕ, ◌≤◌, Bool, true, false, not, ◌&&◌, ◌||◌, List, [], ◌∷◌, map, length, refl, sym, ap, subst, ◌∙◌, inl, inr, bytes_eq, true≢false}
+use Rattle.std.proofs.Common.{◌≡◌, ℕ, ◌≤◌, Bool, true, false, not, ◌&&◌, ◌||◌, List, [], ◌∷◌, map, length, refl, sym, ap, ◌∙◌, inl, inr, bytes_eq, true≢false}
 use Rattle.std.specs.List.{list_all, list_any}
 use Rattle.std.proofs.lemmas.Slice.Eq.{bytes_eq-Decides}
 use Rattle.multisets.specs.Bags.{IsIn, IsWithoutRepeats}
 use Rattle.edge_meaning.specs.declared.graph.Column.{Column}
-use Rattle.edge_meaning.specs.declared.graph.Table.{Table}
 use Rattle.edge_meaning.specs.declared.graph.EdgeGraph.{EdgeGraph}
-use Rattle.edge_meaning.specs.Answers.{column_names}
 use Rattle.edge_meaning.specs.Queries.{IsGraph}
 use Rattle.edge_texts.specs.Schemas.{columns_differ, is_proper, agrees_with}
 

@@ -1,8 +1,7 @@
 -- What is left of a text, token by token.
-use Rattle.std.proofs.Common.{◌≡◌, ℕ, zero, suc, ◌+◌, ◌-◌, ◌<◌, ◌≤◌, Bool, true, false, cond, List, [], ◌∷◌, ◌++◌, map, length, take, drop, get_or, Option, None, Some, refl, sym, ap, ap₂, ◌∙◌, arith, append_assoc, add-one, drop-cons, subst, length-drop}
+use Rattle.std.proofs.Common.{◌≡◌, ℕ, zero, suc, ◌+◌, ◌-◌, ◌<◌, ◌≤◌, true, false, cond, List, [], ◌∷◌, ◌++◌, length, take, drop, get_or, Option, None, Some, refl, sym, ap, ap₂, ◌∙◌, arith, append_assoc, drop-cons, subst, length-drop}
 use Rattle.std.proofs.lemmas.List.{drop-drop}
 use Rattle.std.specs.Option.{option_map}
-use Rattle.pgq_base.specs.declared.refusal.Span.{Span}
 use Rattle.edge_texts.specs.declared.token.Kind.{Kind}
 use Rattle.edge_texts.specs.declared.token.Token.{Token}
 use Rattle.edge_texts.specs.Tokens.{is_space, first_token, token_before, tokens_from}

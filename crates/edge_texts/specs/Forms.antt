@@ -1,5 +1,5 @@
 -- What tokens are of a form: fixed words and symbols, with names between them.
-use Rattle.std.specs.Prelude.{◌≡◌, ℕ, ◌==◌, nat_le, Bool, false, ◌&&◌, cond, List, [], ◌∷◌, length, Option, None, Some, is_none, bytes_eq, Result, Ok, Err, codes}
+use Rattle.std.specs.Prelude.{◌≡◌, ℕ, ◌==◌, nat_le, Bool, false, cond, List, [], ◌∷◌, length, Option, None, Some, is_none, bytes_eq, Result, Ok, Err}
 use Rattle.std.specs.Str.{is_utf8}
 use Rattle.word_table.specs.Tables.{place_of}
 use Rattle.word_table.specs.Words.{reserved}

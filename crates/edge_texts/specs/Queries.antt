@@ -1,5 +1,5 @@
 -- The query texts of one edge between two vertices, and their faults under a graph.
-use Rattle.std.specs.Prelude.{ℕ, zero, suc, Bool, true, false, not, ◌&&◌, ◌||◌, cond, List, [], ◌∷◌, ◌++◌, map, filter, Option, None, Some, bytes_eq, codes}
+use Rattle.std.specs.Prelude.{ℕ, zero, suc, Bool, true, not, ◌&&◌, ◌||◌, cond, List, [], ◌∷◌, ◌++◌, map, filter, Option, None, Some, bytes_eq, codes}
 use Rattle.std.specs.List.{list_all, list_any}
 use Rattle.pgq_base.specs.declared.refusal.Refusal.{Refusal}
 use Rattle.pgq_base.specs.declared.refusal.Role.TheVariants as r
@@ -9,7 +9,6 @@ use Rattle.edge_meaning.specs.declared.graph.EdgeGraph.{EdgeGraph}
 use Rattle.edge_meaning.specs.declared.query.EdgeQuery.{EdgeQuery}
 use Rattle.edge_meaning.specs.declared.query.Output.{Output}
 use Rattle.edge_texts.specs.declared.token.Token.{Token}
-use Rattle.edge_texts.specs.declared.form.Named.{Named}
 use Rattle.edge_texts.specs.Tokens.{tokens_of}
 use Rattle.edge_texts.specs.Forms.{word, symbol, fixed, name_from, then, is_next}
 use Rattle.edge_texts.specs.Refusals.{refusal_at}

@@ -4,7 +4,7 @@ use Rattle.pgq_base.specs.declared.code.Code.{Code}
 use Rattle.pgq_base.specs.declared.code.Code.TheVariants.{Unexpected}
 use Rattle.pgq_base.specs.declared.refusal.Span.{Span}
 use Rattle.pgq_base.specs.declared.refusal.Role.{Role}
-use Rattle.pgq_base.specs.declared.refusal.Role.TheVariants.{Schema, Query}
+use Rattle.pgq_base.specs.declared.refusal.Role.TheVariants.{Schema}
 use Rattle.pgq_base.specs.declared.refusal.Detail.TheVariants.{Nothing}
 use Rattle.pgq_base.specs.declared.refusal.Refusal.{Refusal}
 use Rattle.edge_meaning.specs.declared.graph.EdgeGraph.{EdgeGraph}

@@ -1,5 +1,5 @@
 -- The schema texts of one vertex table, one edge table and a graph over them.
-use Rattle.std.specs.Prelude.{ℕ, zero, suc, ◌+◌, ◌-◌, ◌*◌, nat_le, nat_eq, Bool, true, false, not, ◌&&◌, ◌||◌, cond, List, [], ◌∷◌, ◌++◌, map, fold, length, drop, Option, None, Some, bytes_eq, codes}
+use Rattle.std.specs.Prelude.{ℕ, zero, suc, ◌+◌, ◌-◌, ◌*◌, nat_le, Bool, true, false, not, ◌&&◌, ◌||◌, cond, List, [], ◌∷◌, ◌++◌, fold, Option, None, Some, bytes_eq, codes}
 use Rattle.std.specs.List.{list_all, list_any}
 use Rattle.edge_meaning.specs.declared.graph.ColumnType.{ColumnType}
 use Rattle.edge_meaning.specs.declared.graph.ColumnType.TheVariants.{Integer, VarChar}

@@ -1,8 +1,7 @@
 -- The tokens of a text: words of letters, digits and `_`, runs of digits, and ten symbols, with space between them. What space and a
 -- word are is this project's own.
-use Rattle.std.specs.Prelude.{ℕ, zero, suc, ◌+◌, ◌-◌, ◌==◌, nat_le, Bool, ◌&&◌, ◌||◌, cond, List, [], ◌∷◌, ◌++◌, map, length, take_while, Option, None, Some, option_map, codes}
-use Rattle.std.specs.List.{list_any, prefix_len}
-use Rattle.pgq_base.specs.declared.refusal.Span.{Span}
+use Rattle.std.specs.Prelude.{ℕ, zero, suc, ◌+◌, ◌-◌, ◌==◌, nat_le, Bool, ◌&&◌, ◌||◌, cond, List, [], ◌∷◌, map, length, take_while, Option, None, Some, option_map}
+use Rattle.std.specs.List.{prefix_len}
 use Rattle.edge_texts.specs.declared.token.Kind.{Kind}
 use Rattle.edge_texts.specs.declared.token.Kind.TheVariants.{Word, Digits, Symbol}
 use Rattle.edge_texts.specs.declared.token.Token.{Token}

@@ -1,5 +1,5 @@
 -- The spans of a query's tree.
-use Rattle.std.specs.Prelude.{ℕ, List, [], ◌∷◌, ◌++◌, map, flat_map, Option, None, Some}
+use Rattle.std.specs.Prelude.{List, [], ◌∷◌, ◌++◌, map, flat_map, Option, None, Some}
 use Rattle.std.specs.List.{AllByRecursion}
 use Rattle.pgq_base.specs.declared.refusal.Span.{Span}
 use Rattle.expr_tree.specs.Leaves.{leaves_in, joined}

@@ -1,7 +1,8 @@
 -- The spans of a schema's tree: what holds of each of them.
-use Rattle.std.specs.Prelude.{ℕ, ◌≤◌, List, Option, None, Some}
+use Rattle.std.specs.Prelude.{List, Option, None, Some}
 use Rattle.std.specs.List.{AllByRecursion}
 use Rattle.pgq_base.specs.declared.refusal.Span.{Span}
+pub use Rattle.pgq_base.specs.Spans.{LiesIn}
 use Rattle.graph_ast.specs.declared.schema.Named.{Named}
 use Rattle.graph_ast.specs.declared.schema.SchemaTree.{SchemaTree}
 use Rattle.graph_ast.specs.declared.schema.Statement.{Statement}
@@ -21,11 +22,6 @@ use Rattle.graph_ast.specs.declared.schema.LabelDef.{LabelDef}
 use Rattle.graph_ast.specs.declared.schema.PropertiesDef.{PropertiesDef}
 use Rattle.graph_ast.specs.declared.schema.PropertiesDef.TheVariants.{Nothing, Listed, AllBut}
 use Rattle.graph_ast.specs.declared.schema.PropertyDef.{PropertyDef}
-
--- the span is a part of a text of that length
-pub record LiesIn (length : ℕ) (span : Span) : Type 0 where
-  pub ordered : span.from ≤ span.to
-  pub within : span.to ≤ length
 
 abbrev pub NameHas : (Span → Type 0) → Named → Type 0
 NameHas P n = P n.span

@@ -9,5 +9,5 @@ use Rattle.view_check.specs.Checks.{StopLiesIn}
 
 pub stop_lies : (length : ℕ) (result : Result Catalog (Stop Refusal)) → StopLiesIn length result → IfErr result (RefusalLiesIn length)
 stop_lies length (Ok catalog) lies = tt
-stop_lies length (Err (Refused refusal)) lies = (lies.ordered, lies.within)
+stop_lies length (Err (Refused refusal)) lies = lies
 stop_lies length (Err NoMemory) lies = tt

@@ -1,5 +1,5 @@
 -- What nests nowhere is read alike at each level, and what is gathered behind what was read first.
-use Rattle.std.proofs.Common.{◌≡◌, Result, Err, refl, sym, ap₂, ◌∙◌, ℕ, List, [], ◌∷◌, length}
+use Rattle.std.proofs.Common.{◌≡◌, Err, refl, sym, ap₂, ◌∙◌, ℕ, List, [], ◌∷◌, length}
 use Rattle.pgq_base.specs.declared.refusal.Stop.{Stop}
 use Rattle.pgq_base.specs.declared.refusal.Stop.TheVariants.{NoMemory, Refused}
 use Rattle.sql_lexer.specs.declared.token.Token.{Token}
@@ -9,7 +9,7 @@ use Rattle.token_grammar.specs.Code.{Parses, gathered, after_p, pushed}
 use Rattle.token_grammar.proofs.Loops.{list-first}
 use Rattle.token_grammar.proofs.Through.{seq-through_fault}
 use Rattle.token_grammar.specs.Parser.{Parser, bind, mapped_p, seq_p}
-use Rattle.token_grammar.specs.Parser.Answer.{got, fault}
+use Rattle.token_grammar.specs.Parser.Answer.{got}
 use Rattle.token_marks.specs.declared.mark.Mark.TheVariants as m
 use Rattle.token_reading.specs.Tokens.{is_mark, span_of}
 use Rattle.pattern_parser.specs.Patterns.{all_prefix, any_prefix, shortest_prefix, kind_of_any, mode_and_noun, prefix, mode, noun, mode_part, bounds, quantifier}

@@ -9,7 +9,6 @@ pub mod SpanLists
 pub mod Nests
 pub mod Puts
 pub mod TwoOrMore
-pub mod GatheredLists
 pub mod Heads
 pub mod Ungathered
 pub mod PatternSpans

@@ -1,5 +1,5 @@
 -- One, or two and more in a list: what stands alone leaves no node.
-use Rattle.std.proofs.Common.{◌≡◌, Result, Err, refl, sym, ap, ◌∙◌, ℕ, zero, suc, Bool, true, false, List, [], ◌∷◌, ◌++◌, length}
+use Rattle.std.proofs.Common.{◌≡◌, Err, refl, sym, ap, ◌∙◌, ℕ, zero, suc, Bool, true, false, List, [], ◌∷◌, length}
 use Rattle.token_grammar.specs.Parser.{Answer, Parser, heads, choose, bind, mapped_p, seq_p, many_in, many_p}
 use Rattle.token_grammar.specs.Parser.Answer.{got, fault}
 use Rattle.pgq_base.specs.declared.refusal.Stop.{Stop}

@@ -17,7 +17,7 @@ use Rattle.condition_grammar.specs.Classes.{left_parenthesis, right_parenthesis}
 use Rattle.condition_grammar.specs.Conditions.{Inside}
 use Rattle.condition_nodes.specs.Reading.{open_p}
 use Rattle.pattern_parser.specs.declared.pieces.Placed.{Placed}
-use Rattle.pattern_parser.specs.Insides.{Own, HeldInside, Production}
+use Rattle.pattern_parser.specs.Insides.{Own, HeldInside}
 use Rattle.pattern_parser.specs.Patterns.{bounds, quantifier, part_or_vertex}
 use Rattle.pattern_parser.specs.Queries.{inside}
 use Rattle.pattern_parser.specs.Reading.{reads, at_depth, reads_branch}

@@ -1,25 +1,21 @@
 -- The spans of parts, sequences, unions and paths stand between the places of their tokens.
-use Rattle.std.proofs.Common.{◌≡◌, refl, sym, ap, ap₂, subst, ◌∙◌, ℕ, ◌≤◌, Option, Some, None, List, [], ◌∷◌, ◌++◌, append_assoc, map, flat_map, inl, inr, arith}
+use Rattle.std.proofs.Common.{◌≡◌, sym, ap, subst, ◌∙◌, ℕ, ◌≤◌, Option, Some, None, List, [], ◌∷◌, ◌++◌, append_assoc, map, arith}
 use Rattle.pgq_base.specs.declared.refusal.Span.{Span}
-use Rattle.sql_lexer.specs.declared.token.Token.{Token}
-use Rattle.sql_lexer.specs.Texts.{AreInOrder}
 use Rattle.expr_tree.specs.Leaves.{joined}
 use Rattle.graph_ast.specs.declared.schema.Named.{Named}
 use Rattle.graph_ast.specs.declared.query.Joint.{Joint}
 use Rattle.graph_ast.specs.declared.query.ModeWord.{ModeWord}
-use Rattle.graph_ast.specs.declared.query.PathTree.{PathTree}
 use Rattle.graph_ast.specs.declared.query.Selector.{Selector}
 use Rattle.graph_ast.specs.declared.query.SelectorKind.{SelectorKind}
 use Rattle.graph_ast.specs.declared.query.Quantifier.{Quantifier}
-use Rattle.graph_ast.specs.declared.query.Factor.{Factor, Factor-F, roll-Factor, map-Factor, fold-roll-Factor}
+use Rattle.graph_ast.specs.declared.query.Factor.{Factor, Factor-F, fold-roll-Factor}
 use Rattle.graph_ast.specs.declared.query.Factor.TheVariants as factor_is
-use Rattle.graph_ast.specs.declared.query.PartTree.{PartTree, PartTree', PartTree-F, roll-PartTree, rolls-PartTree', fold-roll-PartTree}
-use Rattle.graph_ast.specs.declared.query.Sequence.{Sequence, Sequence-F, roll-Sequence, fold-roll-Sequence}
-use Rattle.graph_ast.specs.declared.query.Union.{Union, Union-F, roll-Union, fold-roll-Union}
+use Rattle.graph_ast.specs.declared.query.PartTree.{PartTree, rolls-PartTree', fold-roll-PartTree}
+use Rattle.graph_ast.specs.declared.query.Sequence.{Sequence, fold-roll-Sequence}
+use Rattle.graph_ast.specs.declared.query.Union.{Union, roll-Union, fold-roll-Union}
 use Rattle.token_grammar.specs.Rules.{within}
-use Rattle.token_grammar.specs.Rules.Rule.{fork}
 use Rattle.token_marks.specs.declared.mark.Mark.TheVariants as m
-use Rattle.token_reading.specs.Tokens.{class, span_of}
+use Rattle.token_reading.specs.Tokens.{class}
 use Rattle.condition_grammar.specs.Spans.{reach}
 use Rattle.condition_grammar.specs.Conditions.{Inside}
 use Rattle.pattern_parser.specs.declared.pieces.Content.{Content}
@@ -27,13 +23,13 @@ use Rattle.pattern_parser.specs.declared.pieces.PartContent.{PartContent}
 use Rattle.pattern_parser.specs.declared.pieces.EdgePattern.{EdgePattern}
 use Rattle.pattern_parser.specs.declared.pieces.Placed.{Placed}
 use Rattle.pattern_parser.specs.declared.pieces.Prefix.{Prefix}
-use Rattle.pattern_parser.specs.Insides.{Own, HeldInside, Production, the, name, number, before}
-use Rattle.pattern_parser.specs.Patterns.{placed, node_of, last_place, reach_over, reach_with, part_of, part_at, vertex_at, edge_at, part_or_vertex, factor, sequence_of, sequence, joint_of, joint, Joined, joint_in, operand_in, sequence_in, union_of, union, selector_of, prefix_of, mode_and_noun, kind_of_any, any_of, shortest_of, all_prefix, any_prefix, shortest_prefix, prefix, selector_in, mode_in as mode_of, path_from, path_of, path}
+use Rattle.pattern_parser.specs.Insides.{Own, number}
+use Rattle.pattern_parser.specs.Patterns.{placed, node_of, last_place, reach_over, reach_with, part_of, part_at, vertex_at, edge_at, part_or_vertex, factor, sequence_of, sequence, joint_of, joint, Joined, joint_in, operand_in, sequence_in, union_of, union, prefix_of, mode_and_noun, kind_of_any, any_of, shortest_of, all_prefix, any_prefix, shortest_prefix, prefix, selector_in, mode_in as mode_of, path_from, path_of, path}
 use Rattle.pattern_parser.specs.Queries.{inside}
 use Rattle.graph_ast.specs.QuerySpans.{if_given, of_name, of_mode, of_quantifier, of_filler, of_condition, of_factor, of_part, of_sequence, of_union, of_selector, of_path, factor_step, part_step, sequence_step, union_step}
-use Rattle.pattern_parser.proofs.Ranges.{In, AllIn, Holds, Anything, Both, IfGiven, Chain, Given, Gives, Bracketed, any_gives, one_gives, mapped_gives, seq_gives, either_gives, opt_gives, many_gives, nest_gives, fork_gives}
-use Rattle.pattern_parser.proofs.SpanLists.{wider, reaches, all_wider, all_append, Spans, left_all, right_all, given_all, chain_all, joined_all, joined_map}
-use Rattle.pattern_parser.proofs.PatternSpans.{the_in, name_in, after_in, inside_all, mode_in, mode_part_in, quantifier_in, of_content, EdgeIn, edge_in}
+use Rattle.pattern_parser.proofs.Ranges.{In, AllIn, Holds, Both, IfGiven, Chain, Given, Gives, any_gives, one_gives, mapped_gives, seq_gives, either_gives, opt_gives, many_gives, fork_gives}
+use Rattle.pattern_parser.proofs.SpanLists.{wider, reaches, all_wider, all_append, Spans, left_all, given_all}
+use Rattle.pattern_parser.proofs.PatternSpans.{the_in, name_in, mode_in, mode_part_in, quantifier_in, of_content, EdgeIn, edge_in}
 
 -- ---- the spans of each form of pattern
 

@@ -1,8 +1,6 @@
 -- The spans of labels, edges and patterns stand between the places of their tokens.
-use Rattle.std.proofs.Common.{◌≡◌, refl, sym, ap, ap₂, subst, ◌∙◌, ℕ, ◌≤◌, Bool, true, false, Option, Some, None, List, [], ◌∷◌, ◌++◌, map, flat_map, inl, inr, arith}
+use Rattle.std.proofs.Common.{◌≡◌, sym, ap, subst, ◌∙◌, ℕ, ◌≤◌, Bool, true, false, Option, Some, None, List, [], ◌∷◌, ◌++◌, flat_map, arith}
 use Rattle.pgq_base.specs.declared.refusal.Span.{Span}
-use Rattle.sql_lexer.specs.declared.token.Token.{Token}
-use Rattle.sql_lexer.specs.Texts.{AreInOrder}
 use Rattle.graph_ast.specs.declared.schema.Named.{Named}
 use Rattle.graph_ast.specs.declared.query.LabelExpr.{LabelExpr, LabelExpr-F, roll-LabelExpr, map-LabelExpr, fold-roll-LabelExpr}
 use Rattle.graph_ast.specs.declared.query.LabelExpr.TheVariants as label
@@ -10,25 +8,20 @@ use Rattle.graph_ast.specs.declared.query.Direction.{Direction}
 use Rattle.graph_ast.specs.declared.query.Direction.TheVariants.{Undirected}
 use Rattle.graph_ast.specs.declared.query.Mode.{Mode}
 use Rattle.graph_ast.specs.declared.query.Mode.TheVariants.{Walk, Trail, Acyclic, Simple}
-use Rattle.graph_ast.specs.declared.query.ModeWord.{ModeWord}
-use Rattle.graph_ast.specs.declared.query.Quantifier.{Quantifier}
-use Rattle.expr_tree.specs.Leaves.{joined}
 use Rattle.token_grammar.specs.Rules.{within}
-use Rattle.token_grammar.specs.Rules.Rule.{seq, opt, nest}
 use Rattle.token_marks.specs.declared.mark.Mark.{Mark}
 use Rattle.token_marks.specs.declared.mark.Mark.TheVariants as m
-use Rattle.token_reading.specs.Tokens.{class, span_of}
-use Rattle.condition_grammar.specs.Spans.{reach}
+use Rattle.token_reading.specs.Tokens.{class}
 use Rattle.condition_grammar.specs.Conditions.{Inside}
 use Rattle.pattern_parser.specs.declared.pieces.Content.{Content}
 use Rattle.pattern_parser.specs.declared.pieces.EdgePattern.{EdgePattern}
 use Rattle.pattern_parser.specs.declared.pieces.EdgeEnd.{EdgeEnd}
-use Rattle.pattern_parser.specs.Insides.{Own, HeldInside, Production, the, name, after, parens, left_bracket, right_bracket}
-use Rattle.pattern_parser.specs.Patterns.{and_of, or_of, not_label, label_primary, label_not, label_and, label_union, mode_for, mode, mode_part, noun, quantifier, bounds, no_content, in_square, edge_end, wave_end, left_edge, edge, edge_of, direction, end_of, pointed, dashed, waved, filler_of, quantifier_of}
+use Rattle.pattern_parser.specs.Insides.{Own, Production, the, name, after}
+use Rattle.pattern_parser.specs.Patterns.{and_of, or_of, not_label, label_primary, label_not, label_and, label_union, mode_for, mode, mode_part, quantifier, no_content, in_square, edge_end, wave_end, left_edge, edge, edge_of, direction, pointed, dashed, waved}
 use Rattle.pattern_parser.specs.Queries.{inside}
 use Rattle.graph_ast.specs.QuerySpans.{if_given, of_name, of_mode, of_quantifier, of_label, label_step, of_filler, of_condition}
-use Rattle.pattern_parser.proofs.Ranges.{In, AllIn, Holds, Anything, Both, IfGiven, Chain, Given, Gives, Bracketed, any_gives, one_gives, mapped_gives, seq_gives, either_gives, opt_gives, many_gives, nest_gives}
-use Rattle.pattern_parser.proofs.SpanLists.{wider, reaches, all_wider, all_append, Spans, left_all, right_all, given_all, chain_all, joined_all, joined_map}
+use Rattle.pattern_parser.proofs.Ranges.{In, AllIn, Holds, IfGiven, Given, Gives, Bracketed, any_gives, one_gives, mapped_gives, seq_gives, either_gives, opt_gives, many_gives, nest_gives}
+use Rattle.pattern_parser.proofs.SpanLists.{wider, reaches, all_wider, all_append, Spans, left_all, right_all, chain_all, joined_map}
 
 -- ---- names, words, and what stands behind a word
 

@@ -1,5 +1,5 @@
 -- The spans of a query's tree lie in the text whose tokens it has.
-use Rattle.std.proofs.Common.{◌≡◌, refl, sym, ap, subst, ◌∙◌, ℕ, zero, suc, ◌≤◌, Option, Some, None, List, [], ◌∷◌, ◌++◌, map, flat_map, ℤ, pos, arith}
+use Rattle.std.proofs.Common.{subst, ℕ, zero, suc, ◌≤◌, Option, Some, List, [], ◌∷◌, ◌++◌, flat_map, pos, arith}
 use Rattle.std.specs.List.{AllByRecursion}
 use Rattle.pgq_base.specs.declared.refusal.Span.{Span}
 use Rattle.pgq_base.specs.declared.value.Value.TheVariants.{Number}
@@ -19,27 +19,25 @@ use Rattle.graph_ast.specs.declared.query.PropertyRef.{PropertyRef}
 use Rattle.graph_ast.specs.declared.query.QueryTree.{QueryTree}
 use Rattle.graph_ast.specs.Spans.{LiesIn}
 use Rattle.token_grammar.specs.Rules.{within}
-use Rattle.token_grammar.specs.Rules.Rule.{one, seq}
-use Rattle.token_marks.specs.declared.mark.Mark.{Mark}
 use Rattle.token_marks.specs.declared.mark.Mark.TheVariants as m
 use Rattle.token_reading.specs.Tokens.{class}
-use Rattle.condition_grammar.specs.Spans.{reach, span_of, literal}
+use Rattle.condition_grammar.specs.Spans.{reach}
 use Rattle.condition_grammar.specs.Conditions as g
 use Rattle.condition_grammar.specs.Conditions.{Inside}
 use Rattle.pattern_parser.specs.declared.pieces.Counted.{Counted}
 use Rattle.pattern_parser.specs.declared.pieces.Placed.{Placed}
-use Rattle.pattern_parser.specs.Insides.{Own, HeldOwn, HeldInside, Production, the, name, list, parens, after, before, condition_of}
-use Rattle.pattern_parser.specs.Patterns.{label_union, path}
-use Rattle.pattern_parser.specs.Tests.{Tree, condition, is_plain}
-use Rattle.pattern_parser.specs.Queries.{where_part, label_part, filler, part, alias, item_of, gather_of, count_gather, kind_of, leaf_gather, counted, property, is_ungathered, item_rest, after_word, first_member, item_with, item, tree_of, table, query_end, query, inside}
+use Rattle.pattern_parser.specs.Insides.{Own, HeldOwn, Production, name, list, parens, condition_of}
+use Rattle.pattern_parser.specs.Patterns.{label_union}
+use Rattle.pattern_parser.specs.Tests.{Tree, is_plain}
+use Rattle.pattern_parser.specs.Queries.{where_part, label_part, filler, part, alias, item_of, gather_of, count_gather, kind_of, leaf_gather, counted, property, is_ungathered, item_rest, after_word, first_member, item_with, item, tree_of, table, query, inside}
 use Rattle.pattern_parser.specs.Outcomes.{SpellsQuery}
-use Rattle.graph_ast.specs.QuerySpans.{if_given, of_name, of_names, of_mode, of_label, of_condition, of_union, of_path, of_gather, of_item, of_tree, EachSpanHas}
-use Rattle.pattern_parser.proofs.Ranges.{In, AllIn, Holds, Anything, Both, IfGiven, Chain, Given, Gives, Bracketed, any_gives, one_gives, mapped_gives, seq_gives, either_gives, opt_gives, many_gives, nest_gives}
-use Rattle.pattern_parser.proofs.SpanLists.{wider, reaches, all_wider, all_append, Spans, left_all, right_all, given_all, chain_all}
+use Rattle.graph_ast.specs.QuerySpans.{if_given, of_name, of_names, of_mode, of_label, of_condition, of_union, of_path, of_item, of_tree, EachSpanHas}
+use Rattle.pattern_parser.proofs.Ranges.{In, AllIn, Holds, Both, IfGiven, Given, Gives, Bracketed, any_gives, mapped_gives, seq_gives, either_gives, opt_gives, many_gives, nest_gives}
+use Rattle.pattern_parser.proofs.SpanLists.{wider, all_wider, all_append, Spans, left_all, right_all, given_all, chain_all}
 use Rattle.pattern_parser.proofs.PatternSpans.{the_in, name_in, after_in, inside_all, label_union_in, mode_part_in, of_content}
 use Rattle.pattern_parser.proofs.PathSpans.{of_placed, of_part_content, union_in, path_in}
-use Rattle.pattern_parser.proofs.TreeIn.{TreeIn, tree_wider, literal_in, leaf_spans, not_if_in, TailIn}
-use Rattle.pattern_parser.proofs.TestSpans.{HeldIn, NamesTree, NamesIn, of_counted, named_in, after_name_in, test_from_in, condition_in, more_members_in, operands_in, members_in}
+use Rattle.pattern_parser.proofs.TreeIn.{TreeIn, tree_wider, literal_in, leaf_spans, not_if_in}
+use Rattle.pattern_parser.proofs.TestSpans.{HeldIn, NamesIn, of_counted, named_in, after_name_in, test_from_in, condition_in, more_members_in, operands_in, members_in}
 
 condition_all : (at end : ℕ) (c : Tree) → TreeIn at end c → AllIn at end (of_condition (condition_of c))
 condition_all at end c h = all_append at end c.spans (leaf_spans c.tree) h.nodes h.leaves
@@ -247,7 +245,7 @@ inner_in (suc n) k = (inside_in n (inner_in n) k).holds
 
 all_lie : (end : ℕ) (spans : List Span) → AllIn 0 end spans → AllByRecursion (LiesIn end) spans
 all_lie end [] h = tt
-all_lie end (s ∷ spans) h = (record { ordered = h.0.ordered; within = h.0.to }, all_lie end spans h.1)
+all_lie end (s ∷ spans) h = ((h.0.ordered, h.0.to), all_lie end spans h.1)
 
 pub spans_lie : (end : ℕ) (ts : List Token) (tree : QueryTree) → AreInOrder 0 end ts → SpellsQuery ts tree → EachSpanHas (LiesIn end) tree
 spans_lie end ts tree order (n, (d, is, means)) =

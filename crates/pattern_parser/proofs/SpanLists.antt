@@ -1,6 +1,5 @@
 -- Lists of spans that stand between two places.
 use Rattle.std.proofs.Common.{◌≡◌, refl, ap, ℕ, ◌≤◌, Option, Some, None, List, [], ◌∷◌, ◌++◌, map, flat_map, subst, arith}
-use Rattle.std.specs.List.{AllByRecursion}
 use Rattle.pgq_base.specs.declared.refusal.Span.{Span}
 use Rattle.expr_tree.specs.Leaves.{joined}
 use Rattle.condition_grammar.specs.Spans.{reach}

@@ -1,5 +1,5 @@
 -- The spans of conditions stand between the places of their tokens: the productions.
-use Rattle.std.proofs.Common.{◌≡◌, refl, sym, ap, subst, ◌∙◌, ℕ, ◌≤◌, Bool, true, false, cond, bytes_eq, codes, Option, Some, None, List, [], ◌∷◌, ◌++◌, map, flat_map, append-nil, arith}
+use Rattle.std.proofs.Common.{ℕ, ◌≤◌, Bool, true, false, cond, bytes_eq, codes, Option, Some, List, [], ◌∷◌, flat_map, arith}
 use Rattle.pgq_base.specs.declared.refusal.Span.{Span}
 use Rattle.sql_lexer.specs.declared.token.Token.{Token}
 use Rattle.expr_tree.specs.declared.tree.Test.{Test}
@@ -9,21 +9,20 @@ use Rattle.graph_ast.specs.declared.query.PropertyRef.{PropertyRef}
 use Rattle.graph_ast.specs.declared.query.ElementTest.{ElementTest}
 use Rattle.graph_ast.specs.declared.query.ElementTest.TheVariants.{Same, AllDifferent, SourceOf, DestinationOf}
 use Rattle.token_grammar.specs.Rules.{within}
-use Rattle.token_grammar.specs.Rules.Rule.{one, seq}
+use Rattle.token_grammar.specs.Rules.Rule.{one}
 use Rattle.token_marks.specs.declared.mark.Mark.{Mark}
 use Rattle.token_marks.specs.declared.mark.Mark.TheVariants as m
 use Rattle.token_reading.specs.Tokens.{class, named}
-use Rattle.condition_grammar.specs.declared.spanned.Spanned.{Spanned}
 use Rattle.condition_grammar.specs.Spans.{reach, Tail, unless_none, tested, ranged, listed, all_of}
 use Rattle.condition_grammar.specs.Conditions as g
 use Rattle.condition_grammar.specs.Conditions.{Inside}
-use Rattle.pattern_parser.specs.Insides.{Own, HeldOwn, HeldInside, Production, the, name, word, list, after}
-use Rattle.pattern_parser.specs.Tests.{Tree, OfName, is_plain, put_name, leaf_of, dotted, date_text, own_operand, test_tail, truth_test, with_tail, predicate, not_when, related, end_of_edge, relation, after_name, first_of, group_test, grouped, after_group_word, unnamed_operand, test_from, test, negation, conjunction, condition, joined, more_members}
+use Rattle.pattern_parser.specs.Insides.{Own, HeldOwn, HeldInside, Production, list, after}
+use Rattle.pattern_parser.specs.Tests.{Tree, OfName, is_plain, put_name, leaf_of, dotted, date_text, own_operand, test_tail, truth_test, with_tail, predicate, not_when, related, end_of_edge, relation, after_name, first_of, group_test, grouped, after_group_word, unnamed_operand, test_from, negation, conjunction, condition, more_members}
 use Rattle.pattern_parser.specs.Queries.{inside}
 use Rattle.pattern_parser.specs.declared.pieces.Counted.{Counted}
-use Rattle.graph_ast.specs.QuerySpans.{if_given, of_name, of_names, of_test, of_leaf, of_label, of_item, of_tree}
-use Rattle.pattern_parser.proofs.Ranges.{In, AllIn, Holds, Anything, Both, IfGiven, Chain, Given, Gives, Bracketed, any_gives, one_gives, mapped_gives, seq_gives, either_gives, opt_gives, many_gives, nest_gives}
-use Rattle.pattern_parser.proofs.SpanLists.{wider, reaches, all_wider, all_append, Spans, left_all, right_all, given_all, chain_all}
+use Rattle.graph_ast.specs.QuerySpans.{if_given, of_name, of_names, of_test, of_label, of_item, of_tree}
+use Rattle.pattern_parser.proofs.Ranges.{In, AllIn, Holds, Both, IfGiven, Chain, Given, Gives, Bracketed, any_gives, one_gives, mapped_gives, seq_gives, either_gives, opt_gives, many_gives, nest_gives}
+use Rattle.pattern_parser.proofs.SpanLists.{wider, reaches, all_wider, Spans}
 use Rattle.pattern_parser.proofs.PatternSpans.{the_in, name_in, after_in, of_content}
 use Rattle.pattern_parser.proofs.PathSpans.{of_part_content}
 use Rattle.pattern_parser.proofs.TreeIn.{TreeIn, tree_wider, literal_in, leaf_in, ListIn, list_wider, consed, chain_list, all_of_in, any_of_in, negated_in, not_if_in, enclosed_in, TailIn, unless_none_in, compared_in, ranged_in, listed_in, tested_in, coalesced_in}

@@ -1,5 +1,5 @@
 -- The spans of conditions stand between the places of their tokens: what is put together.
-use Rattle.std.proofs.Common.{◌≡◌, refl, sym, ap, subst, ◌∙◌, ℕ, ◌≤◌, Bool, true, false, Option, Some, None, List, [], ◌∷◌, ◌++◌, map, flat_map, append-nil, arith}
+use Rattle.std.proofs.Common.{◌≡◌, sym, subst, ℕ, ◌≤◌, Bool, Option, Some, None, List, [], ◌∷◌, ◌++◌, map, flat_map, arith}
 use Rattle.std.proofs.lemmas.Grind.{flat_map-append}
 use Rattle.pgq_base.specs.declared.refusal.Span.{Span}
 use Rattle.pgq_base.specs.declared.value.Value.{Value}
@@ -10,11 +10,10 @@ use Rattle.expr_tree.specs.declared.tree.Test.{Test}
 use Rattle.expr_tree.specs.Leaves.{joined, leaves_step, leaves_in}
 use Rattle.expr_tree.proofs.Folds.{at_layer}
 use Rattle.graph_ast.specs.declared.query.PropertyRef.{PropertyRef}
-use Rattle.condition_grammar.specs.declared.spanned.Spanned.{Spanned}
-use Rattle.condition_grammar.specs.Spans.{node, reach, first_span, without_first, span_of, tree_of, enclosed, last_span, all_of, any_of, not_if, Tail, unless_none, compared, ranged, listed, tested, coalesced, literal}
+use Rattle.condition_grammar.specs.Spans.{node, reach, without_first, span_of, tree_of, enclosed, last_span, all_of, any_of, not_if, Tail, unless_none, compared, ranged, listed, tested, coalesced, literal}
 use Rattle.pattern_parser.specs.Tests.{Tree}
 use Rattle.graph_ast.specs.QuerySpans.{of_leaf}
-use Rattle.pattern_parser.proofs.Ranges.{In, AllIn, Holds, Both, IfGiven, Chain, Bracketed}
+use Rattle.pattern_parser.proofs.Ranges.{In, AllIn, Holds, IfGiven, Chain, Bracketed}
 use Rattle.pattern_parser.proofs.SpanLists.{wider, reaches, all_wider, all_append}
 
 abbrev pub spans_of : Tree → List Span

@@ -1,14 +1,9 @@
 -- Whole query texts.
-use Rattle.std.proofs.Common.{◌≡◌, refl, sym, ap, ◌∙◌, ℕ, zero, suc, ◌+◌, ◌≤◌, List, [], ◌∷◌, drop, length, slice_get, ◌-◌, Result, Ok, Err, arith}
-use Rattle.pgq_base.specs.declared.refusal.Span.{Span}
-use Rattle.pgq_base.specs.declared.refusal.Role.{Role}
+use Rattle.std.proofs.Common.{◌≡◌, refl, sym, ap, ◌∙◌, ℕ, ◌+◌, ◌≤◌, List, drop, length, slice_get, ◌-◌, Result, Ok, Err, arith}
 use Rattle.pgq_base.specs.declared.refusal.Role.TheVariants.{Query}
-use Rattle.pgq_base.specs.declared.refusal.Detail.{Detail}
 use Rattle.pgq_base.specs.declared.refusal.Detail.TheVariants as detail
 use Rattle.pgq_base.specs.declared.refusal.Refusal.{Refusal}
-use Rattle.pgq_base.specs.declared.code.Code.{Code}
 use Rattle.sql_lexer.specs.declared.token.Token.{Token}
-use Rattle.sql_lexer.specs.Spans.{LiesIn, TokensLieIn}
 use Rattle.graph_ast.specs.declared.query.QueryTree.{QueryTree}
 use Rattle.token_grammar.specs.Rules.{on}
 use Rattle.token_grammar.specs.Parser.{Answer, inner, finish, parser}
@@ -21,6 +16,7 @@ use Rattle.token_reading.specs.Tokens.{class, class_count}
 use Rattle.pattern_parser.specs.Queries.{query, inside, query_text}
 use Rattle.pattern_parser.specs.Reading.{reads, at_depth}
 use Rattle.pattern_parser.specs.Outcomes.{SpellsQuery, IsShallow, IsFirstFault, IsOutcome, opens, closes, span_at, code_for}
+use Rattle.token_reading.proofs.RefusalLemmas.{at_place, made, same_refusal}
 use Rattle.token_reading.proofs.Samples.{below, sample, sampled}
 use Rattle.pattern_parser.proofs.Sure.{sure, decided, sums, counted_all, has}
 
@@ -53,26 +49,7 @@ module _ (ts us : List Token) (same : us ≡ ts) where
 pub one_tree : (ts : List Token) (a b : QueryTree) → SpellsQuery ts a → SpellsQuery ts b → a ≡ b
 one_tree ts a b s t = whole.one_value class class_count below sample sampled inside decided 3 has opens closes counted_all query sure sums ts a b s t
 
-pub span_in_text : (end n : ℕ) (ts : List Token) → TokensLieIn end ts → LiesIn end (span_at end (slice_get ts n))
-span_in_text end n [] h = (omega arith, omega arith)
-span_in_text end zero (t ∷ ts) h = h.0
-span_in_text end (suc n) (t ∷ ts) h = span_in_text end n ts h.1
-
 -- ---- one outcome
-
--- the place of a fault is told by what is left there
-at_place : (end p : ℕ) (ts : List Token) → span_at end (slice_get ts p) ≡ span_at end (slice_get (drop p ts) 0)
-at_place end zero [] = refl
-at_place end (suc p) [] = refl
-at_place end zero (t ∷ ts) = refl
-at_place end (suc p) (t ∷ ts) = at_place end p ts
-
-abbrev made : Role → Span → Code → Detail → Refusal
-made role span code detail = record { role = role; span = span; code = code; detail = detail }
-
-same_refusal : (a b : Refusal) → a.role ≡ b.role → a.span ≡ b.span → a.code ≡ b.code → a.detail ≡ b.detail → a ≡ b
-same_refusal a b r s c d =
-    ap (λ x. made x a.span a.code a.detail) r ∙ ap (λ x. made b.role x a.code a.detail) s ∙ ap (λ x. made b.role b.span x a.detail) c ∙ ap (λ x. made b.role b.span b.code x) d
 
 first_same : (ts : List Token) (end : ℕ) (a b : Refusal) → IsFirstFault ts end a → IsFirstFault ts end b → a ≡ b
 first_same ts end a b f g =

@@ -1,5 +1,5 @@
 -- What nests in query texts, and the words that their grammar shares.
-use Rattle.std.specs.Prelude.{ℕ, ◌==◌, List, Option, Some, None}
+use Rattle.std.specs.Prelude.{ℕ, ◌==◌, List}
 use Rattle.pgq_base.specs.declared.refusal.Span.{Span}
 use Rattle.sql_lexer.specs.declared.token.Token.{Token}
 use Rattle.graph_ast.specs.declared.schema.Named.{Named}

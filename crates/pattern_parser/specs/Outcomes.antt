@@ -1,19 +1,14 @@
 -- What reading a query text answers.
-use Rattle.std.specs.Prelude.{◌≡◌, ◌==◌, ◌||◌, ℕ, Bool, List, Option, None, Some, Result, Ok, Err, drop, slice_get}
-use Rattle.pgq_base.specs.declared.refusal.Span.{Span}
+use Rattle.std.specs.Prelude.{◌≡◌, ◌==◌, ◌||◌, ℕ, Bool, List, Result, Ok, Err, drop, slice_get}
 use Rattle.pgq_base.specs.declared.refusal.Role.TheVariants.{Query}
 use Rattle.pgq_base.specs.declared.refusal.Detail.TheVariants as detail
 use Rattle.pgq_base.specs.declared.refusal.Refusal.{Refusal}
-use Rattle.pgq_base.specs.declared.refusal.Stop.{Stop}
-use Rattle.pgq_base.specs.declared.refusal.Stop.TheVariants.{Refused, NoMemory}
-use Rattle.pgq_base.specs.declared.code.Code.{Code}
-use Rattle.pgq_base.specs.declared.code.Code.TheVariants as code
 use Rattle.token_grammar.specs.declared.fault.Cause.{Cause}
-use Rattle.token_grammar.specs.declared.fault.Cause.TheVariants.{Unexpected, TooDeep}
 use Rattle.sql_lexer.specs.declared.token.Token.{Token}
 use Rattle.graph_ast.specs.declared.query.QueryTree.{QueryTree}
 use Rattle.token_grammar.specs.Rules.{on}
 use Rattle.token_grammar.specs.Texts.{Stays, SpellsAny, FirstFault}
+pub use Rattle.token_reading.specs.Refusals.{span_at, code_for, IfRefused}
 use Rattle.token_reading.specs.Tokens.{class}
 use Rattle.condition_grammar.specs.Classes.{left_parenthesis, right_parenthesis}
 use Rattle.pattern_parser.specs.Insides.{left_bracket, right_bracket}
@@ -33,15 +28,6 @@ closes c = c == right_parenthesis || c == right_bracket
 abbrev pub IsShallow : List Token → Type 0
 IsShallow ts = Stays (on class opens) (on class closes) 64 0 ts
 
--- the span of a token, or the text's end
-abbrev pub span_at : ℕ → Option Token → Span
-span_at end None = record { from = end; to = end }
-span_at end (Some token) = token.span
-
-abbrev pub code_for : Cause → Code
-code_for Unexpected = code.Unexpected
-code_for TooDeep = code.TooDeep
-
 -- the refusal names the first fault of the tokens
 pub record IsFirstFault (ts : List Token) (end : ℕ) (refusal : Refusal) : Type 0 where
   pub role : refusal.role ≡ Query
@@ -51,10 +37,6 @@ pub record IsFirstFault (ts : List Token) (end : ℕ) (refusal : Refusal) : Type
   pub place : ℕ
   pub first : FirstFault (on class opens) (on class closes) query_text 64 ts cause (drop place ts)
   pub span : refusal.span ≡ span_at end (slice_get ts place)
-
-abbrev pub IfRefused : Stop Refusal → (Refusal → Type 0) → Type 0
-IfRefused (Refused r) P = P r
-IfRefused NoMemory P = Unit {0}
 
 -- reading the tokens of a text of that length gives the tree, or the refusal at the first fault
 abbrev pub IsOutcome : List Token → ℕ → Result QueryTree Refusal → Type 0

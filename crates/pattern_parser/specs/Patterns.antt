@@ -1,8 +1,7 @@
 -- The grammar of path patterns. It is that of SQL/PGQ (ISO/IEC 9075-16), cut down.
-use Rattle.std.specs.Prelude.{ℕ, Bool, true, false, ◌||◌, ◌==◌, is_some, List, [], ◌∷◌, map, Option, None, Some}
+use Rattle.std.specs.Prelude.{ℕ, Bool, true, false, ◌||◌, ◌==◌, List, [], ◌∷◌, map, Option, None, Some}
 use Rattle.pgq_base.specs.declared.refusal.Span.{Span}
 use Rattle.graph_ast.specs.declared.schema.Named.{Named}
-use Rattle.graph_ast.specs.declared.query.Condition.{Condition}
 use Rattle.graph_ast.specs.declared.query.PathTree.{PathTree}
 use Rattle.graph_ast.specs.declared.query.Selector.{Selector}
 use Rattle.graph_ast.specs.declared.query.SelectorKind.{SelectorKind}
@@ -24,7 +23,7 @@ use Rattle.graph_ast.specs.declared.query.QuantifierKind.{QuantifierKind}
 use Rattle.graph_ast.specs.declared.query.QuantifierKind.TheVariants.{Between, AtLeast, Optional}
 use Rattle.graph_ast.specs.declared.query.LabelExpr.{LabelExpr}
 use Rattle.graph_ast.specs.declared.query.LabelExpr.TheVariants.{Label, AnyLabel, Not, And, Or}
-use Rattle.token_grammar.specs.Rules.Rule.{one, mapped, seq, either, opt, many, nest, fork}
+use Rattle.token_grammar.specs.Rules.Rule.{mapped, seq, either, opt, many, nest, fork}
 use Rattle.token_marks.specs.declared.mark.Mark.{Mark}
 use Rattle.token_marks.specs.declared.mark.Mark.TheVariants as m
 use Rattle.token_marks.specs.Marks.{number_of}

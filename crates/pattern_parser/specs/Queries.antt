@@ -1,5 +1,5 @@
 -- The grammar of whole query texts: one GRAPH_TABLE.
-use Rattle.std.specs.Prelude.{ℕ, Bool, not, ◌&&◌, ◌||◌, ◌==◌, List, [], ◌∷◌, cond, bytes_eq, codes, Option, None, Some, ℤ, pos}
+use Rattle.std.specs.Prelude.{ℕ, Bool, not, ◌&&◌, ◌||◌, ◌==◌, List, [], ◌∷◌, cond, bytes_eq, codes, Option, None, Some, pos}
 use Rattle.pgq_base.specs.declared.refusal.Span.{Span}
 use Rattle.pgq_base.specs.declared.value.Value.TheVariants.{Number}
 use Rattle.sql_lexer.specs.declared.token.Token.{Token}
@@ -9,14 +9,13 @@ use Rattle.graph_ast.specs.declared.query.QueryTree.{QueryTree}
 use Rattle.graph_ast.specs.declared.query.PropertyRef.{PropertyRef}
 use Rattle.graph_ast.specs.declared.query.Condition.{Condition}
 use Rattle.graph_ast.specs.declared.query.Item.{Item}
-use Rattle.graph_ast.specs.declared.query.GatherDef.{GatherDef}
 use Rattle.graph_ast.specs.declared.query.GatherKind.{GatherKind}
 use Rattle.graph_ast.specs.declared.query.GatherKind.TheVariants.{Count, Min, Max, Sum}
 use Rattle.graph_ast.specs.declared.query.PathTree.{PathTree}
 use Rattle.graph_ast.specs.declared.query.LabelExpr.{LabelExpr}
 use Rattle.token_grammar.specs.Grammar.{Grammar}
 use Rattle.token_grammar.specs.Rules.{grammar}
-use Rattle.token_grammar.specs.Rules.Rule.{one, mapped, seq, either, opt, many, nest}
+use Rattle.token_grammar.specs.Rules.Rule.{one, mapped, seq, either, opt, nest}
 use Rattle.token_marks.specs.declared.mark.Mark.TheVariants as m
 use Rattle.token_marks.specs.Marks.{number_of}
 use Rattle.token_reading.specs.Tokens.{class, span_of, named}
@@ -29,7 +28,7 @@ use Rattle.pattern_parser.specs.declared.pieces.PartContent.{PartContent}
 use Rattle.pattern_parser.specs.declared.pieces.Counted.{Counted}
 use Rattle.pattern_parser.specs.Insides.{Own, HeldOwn, HeldInside, Production, the, name, word, list, parens, after, before, condition_of}
 use Rattle.pattern_parser.specs.Patterns.{label_union, mode_part, union, path}
-use Rattle.pattern_parser.specs.Tests.{Tree, is_plain, own_operand, after_name, test_from, test, negation, condition, more_members}
+use Rattle.pattern_parser.specs.Tests.{Tree, is_plain, own_operand, after_name, test_from, test, condition, more_members}
 
 -- WHERE cond
 unfoldable pub where_part : Production Condition

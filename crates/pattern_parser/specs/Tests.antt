@@ -1,6 +1,6 @@
 -- The grammar of conditions in query texts. What they share with those of SQL texts stands in `condition_grammar`; here are
 -- the leaves and the element predicates, each of which begins with a name or with a word that may be one.
-use Rattle.std.specs.Prelude.{ℕ, Bool, true, false, not, ◌&&◌, ◌||◌, ◌==◌, List, [], ◌∷◌, cond, bytes_eq, codes, Option, None, Some}
+use Rattle.std.specs.Prelude.{ℕ, Bool, true, false, not, ◌&&◌, ◌||◌, ◌==◌, List, [], ◌∷◌, cond, bytes_eq, codes, None, Some}
 use Rattle.pgq_base.specs.declared.refusal.Span.{Span}
 use Rattle.expr_tree.specs.declared.tree.Expr.TheVariants as expr
 use Rattle.graph_ast.specs.declared.schema.Named.{Named}
@@ -10,7 +10,7 @@ use Rattle.graph_ast.specs.declared.query.ElementTest.TheVariants.{Same, AllDiff
 use Rattle.token_grammar.specs.Rules.Rule.{one, mapped, seq, either, opt, many, nest}
 use Rattle.token_marks.specs.declared.mark.Mark.TheVariants as m
 use Rattle.token_marks.specs.Marks.{number_of}
-use Rattle.token_reading.specs.Tokens.{span_of, is_name, named}
+use Rattle.token_reading.specs.Tokens.{span_of, named}
 use Rattle.condition_grammar.specs.declared.spanned.Spanned.{Spanned}
 use Rattle.condition_grammar.specs.Classes.{left_parenthesis, right_parenthesis, is_undated}
 use Rattle.condition_grammar.specs.Spans.{node, reach, Tail, unless_none, all_of, any_of}

@@ -1,4 +1,4 @@
-ghost use Rattle.std.specs.Prelude.{◌≡◌, ℕ, List as Sequence, Result, length, IfOk, OnOk, IfErr, slice_get};
+ghost use Rattle.std.specs.Prelude.{◌≡◌, ℕ, List as Sequence, Result, length, IfOk, OnOk, IfErr};
 ghost use Rattle.std.specs.List.{AllByRecursion};
 ghost use Rattle.sql_lexer.specs.declared.token.Token.{Token as Lexeme};
 ghost use Rattle.pgq_base.specs.declared.refusal.Refusal.{Refusal as AnyRefusal};
@@ -13,15 +13,15 @@ ghost use Rattle.token_grammar.specs.Code.{Parses};
 ghost use Rattle.pattern_parser.specs.Queries.{query};
 ghost use Rattle.pattern_parser.specs.Reading.{reads, at_depth};
 ghost use Rattle.graph_ast.specs.QuerySpans.{EachSpanHas};
-ghost use Rattle.pattern_parser.specs.Outcomes.{SpellsQuery, IsShallow, IsFirstFault, IfRefused, IsOutcome, span_at, code_for};
+ghost use Rattle.pattern_parser.specs.Outcomes.{SpellsQuery, IsShallow, IsFirstFault, IfRefused, IsOutcome};
 
 use crate::queries::query;
 use graph_ast::QueryTree;
-use pgq_base::{Code, Detail, Refusal, Role, Span, Stop};
+use pgq_base::{Detail, Refusal, Role, Stop};
 use sql_lexer::Token;
 use std::alloc::Global;
-use token_grammar::{Cause, Cursor, Halt};
-use token_reading::{Tokens, UNEXPECTED};
+use token_grammar::{Cursor, Halt};
+use token_reading::{Tokens, UNEXPECTED, code_for, span_at};
 
 fn whole(alloc: Global, tokens: &mut Tokens<'_>) -> Result<QueryTree, Halt>
     ensures { Parses (finish (reads (at_depth 64) query tokens.old)) result tokens.new }
@@ -31,24 +31,6 @@ fn whole(alloc: Global, tokens: &mut Tokens<'_>) -> Result<QueryTree, Halt>
         Ok(tree)
     } else {
         Err(UNEXPECTED)
-    }
-}
-
-fn code_for(cause: Cause) -> Code
-    ensures { result ≡ code_for cause }
-{
-    match cause {
-        Cause::Unexpected => Code::Unexpected,
-        Cause::TooDeep => Code::TooDeep,
-    }
-}
-
-fn span_at(tokens: &[Token], place: usize, end: u32) -> Span
-    ensures { result ≡ span_at end (slice_get tokens.now place) }
-{
-    match tokens.get(place) {
-        Some(token) => token.span,
-        None => Span { from: end, to: end },
     }
 }
 

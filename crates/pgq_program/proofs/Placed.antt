@@ -12,7 +12,7 @@ use Rattle.sql_lexer.proofs.Uniqueness.{first_within, tokens_in, tokens_ordered}
 use Rattle.graph_ast.specs.declared.schema.SchemaTree.{SchemaTree}
 use Rattle.graph_ast.specs.declared.catalog.Catalog.{Catalog}
 use Rattle.schema_parser.specs.Outcomes.{IsOutcome, SpellsSchema}
-use Rattle.schema_parser.proofs.Whole.{span_in_text}
+use Rattle.token_reading.proofs.RefusalLemmas.{span_in_text}
 use Rattle.schema_parser.proofs.GraphSpans.{spans_lie}
 use Rattle.first_faults.specs.declared.faults.Fault.{Fault}
 use Rattle.view_check.specs.Phases.{first_fault}
@@ -28,7 +28,7 @@ IsPlaced role n refusal = (refusal.role ≡ role) × LiesIn n refusal.span
 
 ruled_by : (n : ℕ) (o : Option Fault) (catalog : Catalog) (r : Refusal) → FaultLiesIn n o → judged o catalog ≡ Err r → IsPlaced Schema n r
 ruled_by n None catalog r lies e = absurd cc
-ruled_by n (Some f) catalog r lies e = let same : refusal_of f ≡ r = cc in subst (IsPlaced Schema n) same (refl, (lies.ordered, lies.within))
+ruled_by n (Some f) catalog r lies e = let same : refusal_of f ≡ r = cc in subst (IsPlaced Schema n) same (refl, lies)
 
 pub lexed : (role : Role) (text : List ℕ) (r : Refusal) → IsLexed role text (Err r) → IsPlaced role (length text) r
 lexed role text r fault = (ap (λ (r : Refusal). r.role) fault.0, first_within text r.code r.span fault.1)

@@ -36,4 +36,4 @@ right_part end ts us (at, h) =
     (c.0, c.2)
 
 pub lies : (end : ℕ) (t : Token) → EndBy end (t ∷ []) → LiesIn end t.span
-lies end t (at, (a, b, c)) = record { ordered = omega (arith, b); within = c }
+lies end t (at, (a, b, c)) = (omega (arith, b), c)

@@ -1,5 +1,5 @@
 -- The tree of a schema text has the shape that the grammar gives it.
-use Rattle.std.proofs.Common.{◌≡◌, refl, ap, subst, ℕ, zero, suc, ◌+◌, ◌<◌, ◌≤◌, ◌^◌, Option, Some, None, List, [], ◌∷◌, ◌++◌, map, length, length-append, ◌⊎◌, inl, inr, arith}
+use Rattle.std.proofs.Common.{◌≡◌, refl, ap, subst, ℕ, zero, suc, ◌+◌, ◌<◌, ◌≤◌, ◌^◌, Some, None, List, [], ◌∷◌, ◌++◌, map, length, length-append, inl, inr, arith}
 use Rattle.std.specs.List.{AllByRecursion, flat_map}
 use Rattle.sql_lexer.specs.declared.token.Token.{Token}
 use Rattle.graph_ast.specs.declared.schema.SchemaTree.{SchemaTree}
@@ -12,7 +12,7 @@ use Rattle.graph_ast.specs.declared.schema.GraphDef.{GraphDef}
 use Rattle.graph_ast.specs.declared.schema.ElementDef.{ElementDef}
 use Rattle.graph_ast.specs.declared.schema.EdgeDef.{EdgeDef}
 use Rattle.graph_ast.specs.declared.schema.Named.{Named}
-use Rattle.graph_ast.specs.Schemas.{tables_among, graphs_among, rules_of, elements}
+use Rattle.graph_ast.specs.Schemas.{tables_among, graphs_among, rules_of}
 use Rattle.graph_ast.specs.Shapes.{IsNotEmpty, RuleHasShape, KeyHasShape, EndHasShape, GraphHasShape, HasShape}
 use Rattle.token_grammar.specs.Grammar.{Grammar, many_tokens, opt_tokens, one, seq}
 use Rattle.token_grammar.specs.Rules.{grammar, within, is, the_token}
@@ -23,7 +23,7 @@ use Rattle.token_reading.specs.Tokens.{class}
 use Rattle.schema_parser.specs.declared.tables.TableItem.{TableItem}
 use Rattle.schema_parser.specs.declared.tables.TableItem.TheVariants as item
 use Rattle.schema_parser.specs.Tables.{Inside, Held, Production, AtColumn, parens, list, name, columns, column_rule_kind, column_rule, column_rules, column, table_rule_kind, table_rule, table_item, table, columns_among, rules_among}
-use Rattle.schema_parser.specs.Graphs.{inside, key, head, element, end, ends, edge, vertices, edges, edges_or_none, graph, statement as a_statement, schema, schema_text}
+use Rattle.schema_parser.specs.Graphs.{inside, key, head, element, end, ends, edge, vertices, edges, graph, statement as a_statement, schema}
 use Rattle.schema_parser.specs.Outcomes.{SpellsSchema}
 
 -- ---- lists

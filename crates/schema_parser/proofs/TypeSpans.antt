@@ -57,12 +57,12 @@ unfolding type_name
 type_at end n (w, None) (at, h) =
     let c = cut at end ((text_of n words).tokens w) [] h in
     let r = all_words n at c.0 w c.1 in
-    record { ordered = r.later; within = omega (arith, r.within, c.2) }
+    (r.later, omega (arith, r.within, c.2))
 type_at end n (w, Some d) (at, h) =
     let c = cut at end ((text_of n words).tokens w) ((text_of n type_tail).tokens d) h in
     let r = all_words n at c.0 w c.1 in
     let s = tail_reaches n c.0 end d c.2 in
-    record { ordered = omega (arith, r.later, r.within, s.later); within = s.within }
+    (omega (arith, r.later, r.within, s.later), s.within)
 
 pub type_lies : (end : ℕ) → Gives end type_name (λ t. LiesIn end t.span)
 type_lies end = record { holds = type_at end }
@@ -71,4 +71,4 @@ type_lies end = record { holds = type_at end }
 pub two_lie : (end : ℕ) (a b : Mark) → Gives end (seq (the a) (the b)) (λ d. LiesIn end (both d.0 d.1))
 two_lie end a b = record { holds = at } where
   at : (n : ℕ) (d : (text_of n (seq (the a) (the b))).Phrase) → EndBy end ((text_of n (seq (the a) (the b))).tokens d) → LiesIn end (both (((text_of n (seq (the a) (the b))).value d).0) (((text_of n (seq (the a) (the b))).value d).1))
-  at n (x, y) (from, (p, q, (r, s, t))) = record { ordered = omega (arith, q, r, s); within = t }
+  at n (x, y) (from, (p, q, (r, s, t))) = (omega (arith, q, r, s), t)

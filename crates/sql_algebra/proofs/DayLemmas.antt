@@ -1,5 +1,5 @@
 -- The text of a day names that day.
-use Rattle.std.proofs.Common.{◌≡◌, ℕ, zero, suc, ◌+◌, ◌/◌, ◌%◌, ◌<◌, ◌≤◌, Bool, true, false, nat_lt, nat_le, cond, ◌&&◌, List, [], ◌∷◌, length, refl, sym, ap, ◌∙◌, subst, arith, ℤ, pos, negsuc, neg_ℤ, unsigned_abs, int_le, ◌+ℤ◌, ◌≤ℤ◌, ◌<ℤ◌, ◌⊎◌, inl, inr}
+use Rattle.std.proofs.Common.{◌≡◌, ℕ, zero, suc, ◌+◌, ◌/◌, ◌%◌, ◌<◌, ◌≤◌, Bool, true, false, nat_lt, nat_le, cond, ◌&&◌, List, [], ◌∷◌, length, refl, sym, ap, ◌∙◌, arith, ℤ, pos, negsuc, neg_ℤ, unsigned_abs, int_le, ◌+ℤ◌, ◌≤ℤ◌, ◌⊎◌, inl, inr}
 use Rattle.std.proofs.lemmas.Bool.{cases_order}
 use Rattle.std.proofs.lemmas.Bool.Decides.{nat_tests}
 use Rattle.std.proofs.lemmas.Str.{IsUtf8-from_ascii, is_utf8-from_IsUtf8}
@@ -12,8 +12,7 @@ use Rattle.jiff_core.proofs.CalendarLemmas.{days_from_civil-day_count, day_count
 use Rattle.jiff_core.proofs.DateLemmas.{days_from_civil-day, days_from_civil-next_month, days_from_civil-next_year, days_from_civil-max}
 use Rattle.jiff_core.proofs.MarchLemmas.{day_count-early}
 use Rattle.pgq_base.specs.declared.date.Date.{Date}
-use Rattle.civil_dates.specs.Texts.{IsCivil, IsDateText, date_text}
-use Rattle.pgq_base.specs.Numerals.{is_day}
+use Rattle.civil_dates.specs.Texts.{IsDateText, date_text}
 use Rattle.civil_dates.proofs.DateTexts.{day_least}
 use Rattle.sql_algebra.specs.DayTexts.{Civil, civil, next, civil_after, civil_text, day_text}
 

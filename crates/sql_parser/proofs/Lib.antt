@@ -1,5 +1,4 @@
 pub mod Nests
-pub mod GatheredLists
 pub mod Listing
 pub mod Whole
 pub mod Placed

@@ -1,4 +1,4 @@
-ghost use Rattle.std.specs.Prelude.{◌≡◌, ℕ, List as Sequence, Result, IfOk, OnOk, IfErr, slice_get};
+ghost use Rattle.std.specs.Prelude.{◌≡◌, ℕ, List as Sequence, Result, IfOk, OnOk, IfErr};
 ghost use Rattle.sql_lexer.specs.declared.token.Token.{Token as Lexeme};
 ghost use Rattle.pgq_base.specs.declared.refusal.Refusal.{Refusal as AnyRefusal};
 ghost use Rattle.pgq_base.specs.Answers.{Gives};
@@ -10,15 +10,15 @@ ghost use Rattle.token_grammar.specs.Parser.{finish};
 ghost use Rattle.token_grammar.specs.Code.{Parses};
 ghost use Rattle.sql_parser.specs.Reading.{reads, at_depth};
 ghost use Rattle.sql_parser.specs.Spans.{SpansLieIn};
-ghost use Rattle.sql_parser.specs.Outcomes.{SpellsSql, IsShallow, IsFirstFault, IfRefused, IsOutcome, span_at, code_for};
+ghost use Rattle.sql_parser.specs.Outcomes.{SpellsSql, IsShallow, IsFirstFault, IfRefused, IsOutcome};
 
 use crate::selects::sql;
-use pgq_base::{Code, Detail, Refusal, Role, Span, Stop};
+use pgq_base::{Detail, Refusal, Role, Stop};
 use sql_algebra::SqlText;
 use sql_lexer::Token;
 use std::alloc::Global;
-use token_grammar::{Cause, Cursor, Halt};
-use token_reading::{Tokens, UNEXPECTED};
+use token_grammar::{Cursor, Halt};
+use token_reading::{Tokens, UNEXPECTED, code_for, span_at};
 
 fn whole(alloc: Global, tokens: &mut Tokens<'_>) -> Result<SqlText, Halt>
     ensures { Parses (finish (reads (at_depth 128) sql tokens.old)) result tokens.new }
@@ -28,24 +28,6 @@ fn whole(alloc: Global, tokens: &mut Tokens<'_>) -> Result<SqlText, Halt>
         Ok(text)
     } else {
         Err(UNEXPECTED)
-    }
-}
-
-fn code_for(cause: Cause) -> Code
-    ensures { result ≡ code_for cause }
-{
-    match cause {
-        Cause::Unexpected => Code::Unexpected,
-        Cause::TooDeep => Code::TooDeep,
-    }
-}
-
-fn span_at(tokens: &[Token], place: usize, end: u32) -> Span
-    ensures { result ≡ span_at end (slice_get tokens.now place) }
-{
-    match tokens.get(place) {
-        Some(token) => token.span,
-        None => Span { from: end, to: end },
     }
 }
 

@@ -12,6 +12,7 @@ pub mod TellingSelects
 pub mod TellingTexts
 pub mod ReadingLemmas
 pub mod Spelled
+pub mod Written
 pub mod ShapedLiterals
 pub mod RuleValues
 pub mod ShapedConditions

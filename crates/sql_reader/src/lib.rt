@@ -16,6 +16,7 @@ mod unions;
 
 pub use judging::judge_text;
 pub use laws::{
-    faultless_is_sound, grammar_gives_shape, lexed_are_sized, query_is_told, sound_is_faultless,
+    faultless_is_sound, grammar_gives_shape, lexed_are_sized, printed_is_read, query_is_told,
+    sound_is_faultless, told_query_is_written,
 };
 pub use reading::read_sql;

@@ -4,8 +4,9 @@ ghost use Rattle.pgq_base.specs.declared.refusal.Refusal.{Refusal as AnyRefusal}
 ghost use Rattle.sql_algebra.specs.declared.tree.SqlQuery.{SqlQuery as Query};
 ghost use Rattle.sql_lexer.specs.Spans.{RefusalLiesIn};
 ghost use Rattle.sql_lexer.specs.Texts.{AreInOrder};
+ghost use Rattle.sql_algebra.specs.Meant.{SpellsQuery};
 ghost use Rattle.sql_algebra.specs.Soundness.{IsSound};
-ghost use Rattle.sql_parser.specs.Outcomes.{IfRefused, IsFirstFault};
+ghost use Rattle.sql_parser.specs.Outcomes.{IfRefused, IsFirstFault, IsShallow};
 ghost use Rattle.sql_reader.specs.Reading.{IsRead, IsAnswer};
 ghost use Rattle.sql_reader.specs.Shapes.{AreSized};
 
@@ -34,6 +35,11 @@ pub fn read_sql(
     ensures refused { IfErr result (λ stop. IfRefused stop (λ refusal. IsFirstFault tokens.now end refusal ⊎ IsRead tokens.now catalog.now (Err refusal))) }
     ensures due { (due : Result Query AnyRefusal) → IsAnswer tokens.now end catalog.now due → Gives due result }
     ensures sound { AreSized tokens.now → IfOk result (λ query. IsSound query catalog.now) }
+
+    // It is the one sound query that the tokens spell.
+    ensures spelled { IfOk result (λ query. SpellsQuery tokens.now query) }
+    ensures complete { (query : Query) → SpellsQuery tokens.now query → IsSound query catalog.now → IsShallow tokens.now → Gives (Ok query) result }
+
     ensures in_text { AreInOrder 0 end tokens.now → IfErr result (RefusalLiesIn end) }
 {
     match parse_sql(alloc, tokens, end) {

@@ -1,3 +1,4 @@
 pub mod Classes
 pub mod FirstTokens
+pub mod RefusalLemmas
 pub mod Samples

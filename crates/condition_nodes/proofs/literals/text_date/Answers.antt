@@ -1,4 +1,4 @@
-use Rattle.std.proofs.Common.{◌≡◌, ℕ, ℤ, List, refl, subst, ◌∙◌}
+use Rattle.std.proofs.Common.{◌≡◌, ℤ, refl, subst, ◌∙◌}
 use Rattle.civil_dates.specs.Texts.{IsDateText}
 use Rattle.condition_nodes.proofs.LiteralKinds.{dated, undated}
 use Rattle.condition_nodes.proofs.literals.text_date.Goals as goal

@@ -1,4 +1,4 @@
-use Rattle.std.proofs.Common.{◌≡◌, ℕ, Bool, true, false, cond, List, true≢false, sym}
+use Rattle.std.proofs.Common.{◌≡◌, Bool, true, false, cond, true≢false, sym}
 use Rattle.std.proofs.lemmas.Str.{IsUtf8-from_is_utf8}
 use Rattle.edge_texts.specs.Forms.{is_name}
 use Rattle.edge_texts.proofs.form.name_of.Goals as goal

@@ -1,4 +1,4 @@
-use Rattle.std.proofs.Common.{rules, ◌≡◌, ℕ, List, Option, Some, ◌≤◌, ◌+◌, length, drop, sym, ap, ◌∙◌, subst, arith, IfSome, length-drop}
+use Rattle.std.proofs.Common.{◌≡◌, ℕ, List, Option, Some, ◌≤◌, ◌+◌, length, drop, sym, ap, ◌∙◌, subst, arith, IfSome, length-drop}
 use Rattle.edge_texts.specs.declared.token.Token.{Token}
 use Rattle.edge_texts.specs.declared.token.Kind.{Kind}
 use Rattle.edge_texts.specs.Tokens.{first_token, tokens_from}

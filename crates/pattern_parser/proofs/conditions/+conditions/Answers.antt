@@ -17,7 +17,7 @@ use Rattle.pattern_parser.specs.Reading.{reads, at_depth, flat}
 use Rattle.pattern_parser.specs.Tests.{is_plain, is_group_word, dotted, date_text, test_tail, with_tail, after_name, after_group_word, unnamed_operand, negation, conjunction}
 use Rattle.pattern_parser.specs.Conditions.{operand, more_negations, more_conjunctions}
 use Rattle.pattern_parser.proofs.Nests.{nest_is}
-use Rattle.pattern_parser.proofs.GatheredLists.{list_gives, two_gives, joined_one, joined_all, joined_halt}
+use Rattle.condition_nodes.proofs.GatheredLists.{list_gives, two_gives, joined_one, joined_all, joined_halt}
 use Rattle.pattern_parser.proofs.Puts.{seq_put, ended, ended_parses, with_test}
 use Rattle.pattern_parser.proofs.Heads.{own_read, unnamed_read, dotted_read, date_or_name, date_alone, group_or_name, group_alone, by_unnamed, by_plain, by_date, by_group}
 use Rattle.pattern_parser.proofs.conditions.+conditions.Goals as goal

@@ -1,6 +1,5 @@
-use Rattle.std.proofs.Common.{◌-◌, rules, sym, ap, ◌∙◌, arith}
+use Rattle.std.proofs.Common.{rules, sym, ap, ◌∙◌, arith}
 use Rattle.std.proofs.lemmas.Grind.{common_steps}
-use Rattle.pgq_base.specs.declared.refusal.Span.{Span}
 use Rattle.token_grammar.specs.Parser.{choose}
 use Rattle.token_grammar.specs.Parser.Answer.{fault}
 use Rattle.token_grammar.specs.declared.fault.Cause.TheVariants.{Unexpected as unexpected, TooDeep as too_deep}

@@ -1,10 +1,7 @@
-use Rattle.std.proofs.Common.{◌≡◌, Result, Err, refl, ◌+◌, ◌-◌, ◌++◌, [], ◌∷◌, List, length, rules, sym, ap, subst, ◌∙◌, arith}
+use Rattle.std.proofs.Common.{◌≡◌, Err, refl, ◌+◌, ◌-◌, ◌++◌, [], ◌∷◌, length, rules, sym, ap, subst, ◌∙◌, arith}
 use Rattle.std.proofs.lemmas.Grind.{common_steps}
-use Rattle.graph_ast.specs.declared.query.LabelExpr.{LabelExpr}
 use Rattle.graph_ast.specs.declared.query.LabelExpr.TheVariants.{And, Or}
-use Rattle.token_grammar.specs.Parser.{choose}
-use Rattle.token_grammar.specs.Parser.Answer.{got, fault}
-use Rattle.token_grammar.specs.declared.fault.Cause.TheVariants.{Unexpected as unexpected, TooDeep as too_deep}
+use Rattle.token_grammar.specs.Parser.Answer.{got}
 use Rattle.token_grammar.specs.Code.{Parses, gathered, pushed, after_p}
 use Rattle.token_grammar.proofs.Loops.{more-step}
 use Rattle.token_marks.specs.declared.mark.Mark.TheVariants as m

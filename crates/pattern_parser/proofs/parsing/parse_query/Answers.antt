@@ -1,5 +1,6 @@
 use Rattle.std.proofs.Common.{◌-◌, ◌≤◌, length, Ok, Err, refl, sym, subst, arith}
-use Rattle.pattern_parser.proofs.Whole.{ok, shallow, left_short, first, span_in_text, one_outcome}
+use Rattle.token_reading.proofs.RefusalLemmas.{span_in_text}
+use Rattle.pattern_parser.proofs.Whole.{ok, shallow, left_short, first, one_outcome}
 use Rattle.pattern_parser.proofs.QuerySpans.{spans_lie}
 use Rattle.pattern_parser.proofs.JoinedTrees.{paths_are_joined}
 use Rattle.sql_lexer.specs.Spans.{LiesIn}

@@ -1,12 +1,11 @@
-use Rattle.std.proofs.Common.{◌≡◌, Result, Err, ◌+◌, ◌-◌, ◌++◌, [], ◌∷◌, List, length, rules, sym, ap, subst, ◌∙◌, arith}
+use Rattle.std.proofs.Common.{◌≡◌, Err, ◌+◌, ◌-◌, ◌++◌, [], ◌∷◌, List, length, rules, sym, ap, subst, ◌∙◌, arith}
 use Rattle.std.proofs.lemmas.Grind.{common_steps}
 use Rattle.graph_ast.specs.declared.query.Factor.{Factor}
 use Rattle.token_grammar.specs.Rules.{on}
-use Rattle.token_grammar.specs.Parser.{choose, many_p, seq_p, mapped_p}
-use Rattle.token_grammar.specs.Parser.Answer.{got, fault}
-use Rattle.token_grammar.specs.declared.fault.Cause.TheVariants.{Unexpected as unexpected, TooDeep as too_deep}
+use Rattle.token_grammar.specs.Parser.{many_p}
+use Rattle.token_grammar.specs.Parser.Answer.{got}
 use Rattle.token_grammar.specs.Code.{Parses, folded, gathered}
-use Rattle.token_grammar.proofs.Loops.{gathered-step, gathered-stop, gathered-end}
+use Rattle.token_grammar.proofs.Loops.{gathered-step}
 use Rattle.token_grammar.proofs.Through.{seq-through}
 use Rattle.token_marks.specs.declared.mark.Mark.TheVariants as m
 use Rattle.token_reading.specs.Tokens.{class, is_mark}

@@ -11,7 +11,7 @@ use Rattle.condition_nodes.specs.Gathered.{with_one, conjoined, disjoined}
 use Rattle.sql_parser.specs.Reading.{reads, at_depth}
 use Rattle.sql_parser.specs.Conditions.{operand, negation, conjunction}
 use Rattle.sql_parser.proofs.Nests.{nest_is}
-use Rattle.sql_parser.proofs.GatheredLists.{list_gives, two_gives, joined_one, joined_all, joined_halt}
+use Rattle.condition_nodes.proofs.GatheredLists.{list_gives, two_gives, whole_one, whole_all, whole_halt}
 use Rattle.sql_parser.proofs.conditions.+conditions.Goals as goal
 
 pub more_operands-returns-in_err-item : goal.more_operands-returns-in_err-item
@@ -75,33 +75,33 @@ members-returns t c =
 
 pub conjunction-returns-then-not-next_is : goal.conjunction-returns-then-not-next_is
 unfolding g.conjunction
-conjunction-returns-then-not-next_is t c = joined_one (is_mark m.And) span_of (reads (at_depth c.args.depth) negation) all_of conjoined (λ c. refl) (λ c d ds. refl)
+conjunction-returns-then-not-next_is t c = whole_one (is_mark m.And) span_of (reads (at_depth c.args.depth) negation) all_of conjoined (λ c. refl) (λ c d ds. refl)
     c.args.tokens.now c.negation.new.tokens c.in_ok-first.first c.in_ok-first.ensures (sym c.next_is.ensures ∙ c.if-not-next_is.true)
 
 pub conjunction-returns-in_err-all : goal.conjunction-returns-in_err-all
 unfolding g.conjunction
 conjunction-returns-in_err-all t c =
-    let h = joined_halt (is_mark m.And) span_of (reads (at_depth c.args.depth) negation) all_of conjoined (λ c. refl) (λ c d ds. refl) c.args.tokens.now c.negation.new.tokens
+    let h = whole_halt (is_mark m.And) span_of (reads (at_depth c.args.depth) negation) all_of conjoined (λ c. refl) (λ c d ds. refl) c.args.tokens.now c.negation.new.tokens
     c.more_negations.new.tokens c.in_ok-first.first c.in_ok-one.one c.in_ok-first.ensures c.in_ok-one.ensures c.in_err-all.field-0.0 c.in_err-all.ensures in
     first_of (search rules, grind (arith, common_steps))
 
 pub conjunction-returns : goal.conjunction-returns
 unfolding g.conjunction
 conjunction-returns t c =
-    joined_all (is_mark m.And) span_of (reads (at_depth c.args.depth) negation) all_of conjoined (λ c. refl) (λ c d ds. refl) c.args.tokens.now c.negation.new.tokens
+    whole_all (is_mark m.And) span_of (reads (at_depth c.args.depth) negation) all_of conjoined (λ c. refl) (λ c d ds. refl) c.args.tokens.now c.negation.new.tokens
     c.more_negations.new.tokens c.in_ok-first.first c.in_ok-one.one c.in_ok-all.all c.in_ok-first.ensures (sym c.next_is.ensures ∙ c.if-not-next_is.false)
     c.in_ok-one.ensures c.in_ok-all.ensures
     ∙ ap (λ z. got z c.more_negations.new.tokens) (sym c.in_ok-conjoined.ensures)
 
 pub condition-returns-then-not-next_is : goal.condition-returns-then-not-next_is
 unfolding g.search_condition
-condition-returns-then-not-next_is t c = joined_one (is_mark m.Or) span_of (reads (at_depth c.args.depth) conjunction) any_of disjoined (λ c. refl) (λ c d ds. refl)
+condition-returns-then-not-next_is t c = whole_one (is_mark m.Or) span_of (reads (at_depth c.args.depth) conjunction) any_of disjoined (λ c. refl) (λ c d ds. refl)
     c.args.tokens.now c.conjunction.new.tokens c.in_ok-first.first c.in_ok-first.ensures (sym c.next_is.ensures ∙ c.if-not-next_is.true)
 
 pub condition-returns-in_err-all : goal.condition-returns-in_err-all
 unfolding g.search_condition
 condition-returns-in_err-all t c =
-    let h = joined_halt (is_mark m.Or) span_of (reads (at_depth c.args.depth) conjunction) any_of disjoined (λ c. refl) (λ c d ds. refl) c.args.tokens.now
+    let h = whole_halt (is_mark m.Or) span_of (reads (at_depth c.args.depth) conjunction) any_of disjoined (λ c. refl) (λ c d ds. refl) c.args.tokens.now
     c.conjunction.new.tokens c.more_conjunctions.new.tokens c.in_ok-first.first c.in_ok-one.one c.in_ok-first.ensures c.in_ok-one.ensures c.in_err-all.field-0.0
     c.in_err-all.ensures in
     first_of (search rules, grind (arith, common_steps))
@@ -109,7 +109,7 @@ condition-returns-in_err-all t c =
 pub condition-returns : goal.condition-returns
 unfolding g.search_condition
 condition-returns t c =
-    joined_all (is_mark m.Or) span_of (reads (at_depth c.args.depth) conjunction) any_of disjoined (λ c. refl) (λ c d ds. refl) c.args.tokens.now c.conjunction.new.tokens
+    whole_all (is_mark m.Or) span_of (reads (at_depth c.args.depth) conjunction) any_of disjoined (λ c. refl) (λ c d ds. refl) c.args.tokens.now c.conjunction.new.tokens
     c.more_conjunctions.new.tokens c.in_ok-first.first c.in_ok-one.one c.in_ok-all.all c.in_ok-first.ensures (sym c.next_is.ensures ∙ c.if-not-next_is.false)
     c.in_ok-one.ensures c.in_ok-all.ensures
     ∙ ap (λ z. got z c.more_conjunctions.new.tokens) (sym c.in_ok-disjoined.ensures)

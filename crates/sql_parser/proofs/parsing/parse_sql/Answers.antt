@@ -1,5 +1,6 @@
 use Rattle.std.proofs.Common.{◌-◌, ◌≤◌, length, Ok, Err, refl, sym, subst, arith}
-use Rattle.sql_parser.proofs.Whole.{ok, shallow, left_short, first, span_in_text, one_outcome}
+use Rattle.token_reading.proofs.RefusalLemmas.{span_in_text}
+use Rattle.sql_parser.proofs.Whole.{ok, shallow, left_short, first, one_outcome}
 use Rattle.sql_parser.proofs.SelectSpans.{spans_lie}
 use Rattle.sql_lexer.specs.Spans.{LiesIn}
 use Rattle.sql_parser.proofs.parsing.parse_sql.Goals as goal
