@@ -8,7 +8,7 @@ use Rattle.graph_ast.specs.declared.checked.CheckedQuery.{CheckedQuery}
 use Rattle.graph_ast.specs.declared.catalog.Catalog.{Catalog}
 use Rattle.graph_ast.specs.declared.query.QueryTree.{QueryTree}
 use Rattle.graph_ast.specs.QuerySpans.{EachSpanHas}
-use Rattle.graph_ast.specs.Spans.{LiesIn}
+use Rattle.pgq_base.specs.Spans.{LiesIn}
 use Rattle.first_faults.specs.declared.faults.Fault.{Fault}
 use Rattle.pattern_check.specs.Checked.{checked}
 use Rattle.pattern_check.specs.Checks.{refusal_of, judged, due}
@@ -17,7 +17,7 @@ use Rattle.pattern_check.specs.Phases.{first_fault}
 use Rattle.pattern_check.proofs.FaultSpans.{Found, at_first_fault}
 
 nowhere : (end : ℕ) → LiesIn end (record { from = 0; to = 0 })
-nowhere end = record { ordered = omega arith; within = omega arith }
+nowhere end = (omega arith, omega arith)
 
 lies : (end : ℕ) (o : Option Fault) → Found (LiesIn end) (nowhere end) o → FaultLiesIn end o
 lies end None h = tt

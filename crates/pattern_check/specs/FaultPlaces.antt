@@ -4,7 +4,7 @@ use Rattle.pgq_base.specs.declared.refusal.Refusal.{Refusal}
 use Rattle.pgq_base.specs.declared.refusal.Stop.{Stop}
 use Rattle.pgq_base.specs.declared.refusal.Stop.TheVariants.{Refused, NoMemory}
 use Rattle.graph_ast.specs.declared.checked.CheckedQuery.{CheckedQuery}
-use Rattle.graph_ast.specs.Spans.{LiesIn}
+use Rattle.pgq_base.specs.Spans.{LiesIn}
 use Rattle.first_faults.specs.declared.faults.Fault.{Fault}
 
 -- the span of a fault lies in a text of that length

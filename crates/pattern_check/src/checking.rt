@@ -11,7 +11,7 @@ ghost use Rattle.pattern_check.specs.Checked.{with_weight};
 ghost use Rattle.normal_form.specs.Checked.{AreNumbered};
 ghost use Rattle.graph_ast.specs.Patterns.{IsJoined};
 ghost use Rattle.graph_ast.specs.QuerySpans.{EachSpanHas};
-ghost use Rattle.graph_ast.specs.Spans.{LiesIn};
+ghost use Rattle.pgq_base.specs.Spans.{LiesIn};
 ghost use Rattle.pattern_check.specs.FaultPlaces.{StopLiesIn};
 ghost use Rattle.pattern_check.specs.Lowerable.{IsPlain, IsLowerable};
 ghost use Rattle.pattern_check.specs.Checks.{early_fault, later_fault, refusal_of, judged, due};

@@ -2,7 +2,7 @@ ghost use Rattle.std.specs.Prelude.{ℕ};
 ghost use Rattle.graph_ast.specs.declared.catalog.Catalog.{Catalog};
 ghost use Rattle.graph_ast.specs.declared.query.QueryTree.{QueryTree as Tree};
 ghost use Rattle.graph_ast.specs.QuerySpans.{EachSpanHas};
-ghost use Rattle.graph_ast.specs.Spans.{LiesIn};
+ghost use Rattle.pgq_base.specs.Spans.{LiesIn};
 ghost use Rattle.pattern_check.specs.FaultPlaces.{FaultLiesIn};
 ghost use Rattle.pattern_check.specs.Phases.{first_fault};
 ghost use Rattle.pattern_check.specs.Lowerable.{MakesLowerable};

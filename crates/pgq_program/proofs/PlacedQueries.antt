@@ -27,7 +27,7 @@ use Rattle.pgq_program.proofs.Placed.{IsPlaced, lexed}
 
 ruled_by : (n : ℕ) (o : Option Fault) (query : CheckedQuery) (r : Refusal) → FaultLiesIn n o → judged o query ≡ Err r → IsPlaced Query n r
 ruled_by n None query r lies e = absurd cc
-ruled_by n (Some f) query r lies e = let same : refusal_of f ≡ r = cc in subst (IsPlaced Query n) same (refl, (lies.ordered, lies.within))
+ruled_by n (Some f) query r lies e = let same : refusal_of f ≡ r = cc in subst (IsPlaced Query n) same (refl, lies)
 
 Served : QueryTree → Bool → Result QueryTree Refusal
 Served tree b = cond b (Ok tree) (Err not_served)
