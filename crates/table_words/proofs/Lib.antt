@@ -1,0 +1,4 @@
+mod Identifiers
+mod Forms
+mod Names
+mod Asking
