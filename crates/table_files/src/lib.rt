@@ -1,0 +1,8 @@
+//! The instance that the files of some tables give: each file's rows, and no rows for the other tables.
+#![tactic(auto)]
+
+mod files;
+mod instances;
+
+pub use files::{TableText, TablesRead, data_too_large};
+pub use instances::instance_of;
