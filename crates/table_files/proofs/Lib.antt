@@ -1,1 +1,2 @@
 mod Typing
+mod GivenTables

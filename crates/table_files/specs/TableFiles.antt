@@ -1,8 +1,9 @@
 -- The instance that the texts of some tables give, or the first refusal. The limit and the order of refusals are this project's own.
-use Rattle.std.specs.Prelude.{ℕ, ◌+◌, nat_le, if◌then◌else◌, List, [], ◌∷◌, length, slice_set, Option, None, Some, Result, Ok, Err}
+use Rattle.std.specs.Prelude.{◌≡◌, ℕ, ◌+◌, ◌≤◌, nat_le, if◌then◌else◌, List, [], ◌∷◌, map, sum_by, length, slice_set, Option, None, Some, Result, Ok, Err}
 use Rattle.pgq_base.specs.declared.code.Code.TheVariants.{DataTooLarge}
 use Rattle.pgq_base.specs.declared.refusal.Refusal.{Refusal}
-use Rattle.pgq_base.specs.Instances.{TableRows, InstanceRows}
+use Rattle.multisets.specs.Bags.{IsIn}
+use Rattle.pgq_base.specs.Instances.{TableRows, InstanceRows, rows_at}
 use Rattle.graph_ast.specs.declared.catalog.Catalog.{Catalog}
 use Rattle.graph_ast.specs.Fits.{without_rows}
 use Rattle.graph_ast.specs.Lookups.{table_at}
@@ -65,3 +66,17 @@ instance_checked catalog instance = unless (instance_refusal catalog instance) i
 -- what the texts are due
 abbrev pub instance_due : Catalog → List TableText → Result InstanceRows Refusal
 instance_due catalog texts = and_then (files_read catalog (none_read catalog) texts) (λ read. instance_checked catalog read.tables)
+
+-- the tables of the texts
+abbrev pub tables_in : List TableText → List ℕ
+tables_in texts = map (λ text. text.table) texts
+
+abbrev pub bytes_in : List TableText → ℕ
+bytes_in texts = sum_by (λ text. length text.bytes) texts
+
+-- the instance has the rows of each text at the place of its table, and no rows at another place
+pub record IsGivenBy (catalog : Catalog) (texts : List TableText) (instance : InstanceRows) : Type 0 where
+  pub tables : length instance ≡ length catalog.tables
+  pub given : (text : TableText) → IsIn text texts → table_rows text.bytes (table_at catalog text.table) ≡ Ok (rows_at instance text.table)
+  pub others : (place : ℕ) → (IsIn place (tables_in texts) → ⊥) → rows_at instance place ≡ []
+  pub few : bytes_in texts ≤ most_bytes

@@ -3,6 +3,8 @@
 
 mod files;
 mod instances;
+mod laws;
 
 pub use files::{TableText, TablesRead, data_too_large};
 pub use instances::instance_of;
+pub use laws::instances_of_files;
