@@ -1,5 +1,5 @@
 -- The tables of the generated run fit its schema.
-use Rattle.std.proofs.Common.{◌≡◌, ℕ, zero, suc, ◌+◌, ◌-◌, ◌*◌, ◌%◌, ◌<◌, ◌≤◌, ◌^◌, ◌⊎◌, inl, inr, Bool, true, false, not, ℤ, pos, negsuc, List, [], ◌∷◌, ◌++◌, map, filter, flat_map, length, get_or, refl, sym, ap, ◌∙◌, subst, arith, length-append, rules}
+use Rattle.std.proofs.Common.{◌≡◌, ℕ, zero, suc, ◌+◌, ◌-◌, ◌*◌, ◌%◌, ◌<◌, ◌≤◌, ◌^◌, ◌⊎◌, inl, inr, Bool, true, false, not, ℤ, pos, negsuc, List, [], ◌∷◌, ◌++◌, map, filter, flat_map, length, get_or, Result, Ok, Err, IfOk, refl, sym, ap, ◌∙◌, subst, arith, length-append, rules}
 use Rattle.std.specs.Prelude.{codes, decimal}
 use Rattle.std.specs.List.{range_with_len}
 use Rattle.std.specs.Str.{chars, IsAscii}
@@ -14,6 +14,7 @@ use Rattle.multisets.proofs.Kept.{filter_without}
 use Rattle.graph_meaning.proofs.Members.{in_map, from_map, map_once, from_flat, in_range, from_range, range_once}
 use Rattle.pgq_base.specs.declared.value.Value.{Value}
 use Rattle.pgq_base.specs.declared.value.Value.TheVariants.{Number, Text}
+use Rattle.pgq_base.specs.declared.rows.Instance.{Instance}
 use Rattle.pgq_base.specs.Instances.{RowValues, TableRows, InstanceRows, values_at, rows_at}
 use Rattle.graph_ast.specs.declared.catalog.Table.{Table}
 use Rattle.graph_ast.specs.declared.catalog.Key.{Key}
@@ -22,7 +23,7 @@ use Rattle.graph_ast.specs.declared.catalog.ColumnType.TheVariants.{Integer, Var
 use Rattle.graph_ast.specs.Fits.{IsBetween, IsValueOf, IsRowOf, IsUnique, IsMet, AreRowsOf, Fits, has_null}
 use Rattle.graph_ast.specs.Lookups.{table_at}
 use Rattle.sample_run.specs.SampleCatalog.{column, first_key, to_person, person_table, knows_table, sample_catalog}
-use Rattle.sample_run.specs.SampleRun.{numbers_to, person_name, person_row, knows_row, rows_for, person_rows, knows_rows, sample_rows}
+use Rattle.sample_run.specs.SampleRun.{numbers_to, person_name, person_row, knows_row, rows_for, person_rows, knows_rows, sample_rows, shown_tables}
 
 -- ---- values
 
@@ -211,3 +212,8 @@ module _ (n : ℕ) (some : 1 ≤ n) (most : n ≤ 2000) where
 
   pub fits : Fits sample_catalog (sample_rows n)
   fits = record { tables = refl; rows = each_table }
+
+pub fits_made : {E : Type 0} (n : ℕ) → 1 ≤ n → n ≤ 2000 → (result : Result Instance E) → IfOk result (λ instance. shown_tables instance ≡ sample_rows n)
+    → IfOk result (λ instance. Fits sample_catalog (shown_tables instance))
+fits_made n some most (Ok instance) is = subst (Fits sample_catalog) (sym is) (fits n some most)
+fits_made n some most (Err e) is = tt

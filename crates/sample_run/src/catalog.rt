@@ -1,6 +1,8 @@
 ghost use Rattle.std.specs.Prelude.{◌≡◌, ◌∷◌, ◌≤◌, [], IfOk, length};
+ghost use Rattle.graph_ast.specs.Catalogs.{IsValidCatalog};
 ghost use Rattle.sample_run.specs.SampleCatalog.{column, first_key, knows_edge, knows_table, person_element, person_table, property, sample_catalog, sample_graph, to_person};
 
+use crate::laws::sample_catalog_valid;
 use graph_ast::{
     Catalog, Column, ColumnType, EdgeElement, Element, End, Graph, Key, Property, Reference, Table,
 };
@@ -158,8 +160,7 @@ fn sample_graph(alloc: Global) -> Result<Graph, NoMemory>
     })
 }
 
-/// The catalog that the schema text of the generated run stands for.
-pub fn sample_catalog(alloc: Global) -> Result<Catalog, NoMemory>
+fn made_catalog(alloc: Global) -> Result<Catalog, NoMemory>
     ensures { IfOk result (λ catalog. catalog ≡ sample_catalog) }
 {
     let mut tables = List::new(alloc);
@@ -169,4 +170,13 @@ pub fn sample_catalog(alloc: Global) -> Result<Catalog, NoMemory>
         tables,
         graphs: one(alloc, sample_graph(alloc)?)?,
     })
+}
+
+/// The catalog of the generated run, which its schema text stands for. It is valid.
+pub fn sample_catalog(alloc: Global) -> Result<Catalog, NoMemory>
+    ensures value { IfOk result (λ catalog. catalog ≡ sample_catalog) }
+    ensures valid { IfOk result IsValidCatalog }
+{
+    sample_catalog_valid();
+    made_catalog(alloc)
 }

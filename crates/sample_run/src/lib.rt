@@ -7,6 +7,6 @@ mod summary;
 mod tables;
 
 pub use catalog::sample_catalog;
-pub use laws::sample_tables_fit;
+pub use laws::{sample_catalog_valid, sample_tables_fit};
 pub use summary::{sample_query, sample_schema, sample_summary};
 pub use tables::sample_tables;

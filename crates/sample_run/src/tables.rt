@@ -1,6 +1,8 @@
 ghost use Rattle.std.specs.Prelude.{◌≡◌, ◌∷◌, ◌++◌, ◌≤◌, [], IfOk, OnOk, codes, decimal, map};
 ghost use Rattle.std.specs.List.{range_with_len};
-ghost use Rattle.sample_run.specs.SampleRun.{knows_row, knows_rows, numbers_to, person_name, person_row, person_rows, rows_for, sample_rows, shown_rows, shown_tables};
+ghost use Rattle.graph_ast.specs.Fits.{Fits};
+ghost use Rattle.sample_run.specs.SampleCatalog.{sample_catalog};
+ghost use Rattle.sample_run.specs.SampleRun.{knows_row, knows_rows, person_name, person_row, person_rows, rows_for, sample_rows, shown_rows, shown_tables};
 
 use pgq_base::{Instance, List, NoMemory, Row, Rows, Text, Value};
 use std::alloc::Global;
@@ -79,9 +81,7 @@ fn edges(alloc: Global, n: u32) -> Result<Rows, NoMemory>
     Ok(Rows { rows })
 }
 
-/// The tables of the generated run with `n` persons: PERSON has a row for each, and KNOWS has three rows
-/// that begin at each. The generator is this project's own.
-pub fn sample_tables(alloc: Global, n: u32) -> Result<Instance, NoMemory>
+fn made_tables(alloc: Global, n: u32) -> Result<Instance, NoMemory>
     requires some { 1 ≤ n }
     requires most { n ≤ 2000 }
     ensures { IfOk result (λ instance. shown_tables instance ≡ sample_rows n) }
@@ -90,4 +90,15 @@ pub fn sample_tables(alloc: Global, n: u32) -> Result<Instance, NoMemory>
     tables.push(persons(alloc, n)?)?;
     tables.push(edges(alloc, n)?)?;
     Ok(Instance { tables })
+}
+
+/// The tables of the generated run with `n` persons: PERSON has a row for each, and KNOWS has three rows
+/// that begin at each. They fit the catalog of the run. The generator is this project's own.
+pub fn sample_tables(alloc: Global, n: u32) -> Result<Instance, NoMemory>
+    requires some { 1 ≤ n }
+    requires most { n ≤ 2000 }
+    ensures value { IfOk result (λ instance. shown_tables instance ≡ sample_rows n) }
+    ensures fits { IfOk result (λ instance. Fits sample_catalog (shown_tables instance)) }
+{
+    made_tables(alloc, n)
 }
