@@ -10,3 +10,6 @@ pub use catalog::sample_catalog;
 pub use laws::{sample_catalog_valid, sample_tables_fit};
 pub use summary::{sample_query, sample_schema, sample_summary};
 pub use tables::sample_tables;
+
+#[cfg(test)]
+mod tests;

@@ -1,5 +1,5 @@
 -- Rows of files are rows of their tables, and an instance without a fault fits.
-use Rattle.std.proofs.Common.{◌≡◌, ℕ, zero, suc, ◌+◌, ◌<◌, ◌^◌, ◌==◌, Bool, true, false, List, [], ◌∷◌, map, length, get_or, set, Option, None, Some, Result, Ok, Err, inl, inr, refl, sym, ap, ◌∙◌, subst, arith, zero-add, get_or-set_same, get_or-set_other}
+use Rattle.std.proofs.Common.{◌≡◌, ℕ, zero, suc, ◌+◌, ◌<◌, ◌^◌, ◌==◌, Bool, true, false, List, [], ◌∷◌, map, length, get_or, set, Option, None, Some, Ok, inl, inr, refl, sym, ap, ◌∙◌, subst, arith, zero-add, get_or-set_same, get_or-set_other}
 use Rattle.std.specs.Prelude.{⊤}
 use Rattle.std.proofs.lemmas.List.{length-map, length-set}
 use Rattle.std.proofs.lemmas.Bool.Decides.{Decides-eqb}
@@ -9,7 +9,7 @@ use Rattle.pgq_base.specs.Instances.{RowValues, TableRows, InstanceRows, rows_at
 use Rattle.graph_ast.specs.declared.catalog.Catalog.{Catalog}
 use Rattle.graph_ast.specs.declared.catalog.Table.{Table}
 use Rattle.graph_ast.specs.Catalogs.{IsValidCatalog}
-use Rattle.graph_ast.specs.Fits.{Fits, AreRowsOf, IsRowOf, no_rows, without_rows}
+use Rattle.graph_ast.specs.Fits.{Fits, IsRowOf, no_rows, without_rows}
 use Rattle.graph_ast.specs.Lookups.{table_at}
 use Rattle.csv_tables.specs.Constraints.{constraints_of, instance_refusal, rows_fault, verdict}
 use Rattle.csv_tables.specs.Reading.{table_rows}

@@ -8,3 +8,6 @@ mod laws;
 pub use files::{TableText, TablesRead, data_too_large};
 pub use instances::instance_of;
 pub use laws::instances_of_files;
+
+#[cfg(test)]
+mod tests;

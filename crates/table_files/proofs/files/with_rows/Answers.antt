@@ -1,4 +1,4 @@
-use Rattle.std.proofs.Common.{◌≡◌, map, set, ap, ◌∙◌}
+use Rattle.std.proofs.Common.{map, set, ap, ◌∙◌}
 use Rattle.std.proofs.lemmas.List.{map-set}
 use Rattle.csv_tables.specs.Outcomes.{rows_of}
 use Rattle.table_files.proofs.files.with_rows.Goals as goal

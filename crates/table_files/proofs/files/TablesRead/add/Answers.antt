@@ -1,4 +1,4 @@
-use Rattle.std.proofs.Common.{◌≡◌, ◌∙◌, get_or, ap, sym, subst, Ok}
+use Rattle.std.proofs.Common.{◌≡◌, get_or, sym, subst, Ok}
 use Rattle.csv_tables.specs.Constraints.{instance_rows}
 use Rattle.csv_tables.specs.Outcomes.{rows_of}
 use Rattle.csv_tables.specs.Reading.{table_rows}
