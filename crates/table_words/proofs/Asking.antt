@@ -1,5 +1,5 @@
 -- What a word asks for, by the place of its first `=` outside quotes.
-use Rattle.std.proofs.Common.{◌≡◌, ◌↔◌, ℕ, ◌+◌, ◌-◌, ◌<◌, ◌≤◌, false, List, [], ◌∷◌, ◌++◌, length, take, drop, get_or, Option, None, Some, option_map, Result, Ok, Err, IfOk, refl, sym, ap, ◌∙◌, subst, arith, length-append, length-drop}
+use Rattle.std.proofs.Common.{◌≡◌, ◌↔◌, ℕ, ◌+◌, ◌-◌, ◌<◌, ◌≤◌, false, List, ◌∷◌, length, take, drop, Option, None, Some, option_map, Result, Ok, Err, IfOk, refl, sym, ap, ◌∙◌, subst, arith, length-append, length-drop}
 use Rattle.std.proofs.Math.Seq.{take-append_seam}
 use Rattle.pgq_base.specs.Files.{after_equals, equals_sign}
 use Rattle.table_words.specs.declared.word.TableWord.{TableWord}

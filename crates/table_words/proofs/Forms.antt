@@ -1,20 +1,20 @@
 -- A word is an identifier, a `=` and a file exactly where the piece at its front says so.
-use Rattle.std.proofs.Common.{◌≡◌, ℕ, ◌+◌, ◌≤◌, ◌==◌, ◌||◌, ◌&&◌, Bool, true, false, not, cond, List, [], ◌∷◌, ◌++◌, length, drop, Option, None, Some, refl, sym, ap, ◌∙◌, subst, arith, append-nil, append_assoc}
+use Rattle.std.proofs.Common.{◌≡◌, ℕ, ◌≤◌, ◌==◌, ◌&&◌, Bool, true, false, List, [], ◌∷◌, ◌++◌, length, drop, Option, None, Some, refl, sym, ap, ◌∙◌, subst, arith, append_assoc}
 use Rattle.std.specs.List.{list_all}
 use Rattle.std.proofs.Math.Seq.{drop-append_seam}
 use Rattle.std.proofs.lemmas.Bool.Decides.{Decides-eqb, nat_tests}
 use Rattle.pgq_base.specs.Files.{after_equals, equals_sign, double_quote}
 use Rattle.sql_lexer.specs.declared.fault.Fault.{Fault}
 use Rattle.sql_lexer.specs.declared.token.Kind.{Kind}
-use Rattle.sql_lexer.specs.Pieces.{Piece, Word, Delimited, bytes_of, doubled, name_quote, is_word_byte, begins_word, IsWord, IsPiece, CanStand, Stands}
+use Rattle.sql_lexer.specs.Pieces.{Piece, bytes_of, doubled, name_quote, is_word_byte, begins_word, IsWord, IsPiece, Stands}
 use Rattle.sql_lexer.specs.Faults.{fault_of}
 use Rattle.sql_lexer.specs.Tokens.{kind_of}
 use Rattle.sql_lexer.specs.Scan.{front}
 use Rattle.sql_lexer.specs.Joining.{ends_before}
 use Rattle.sql_lexer.proofs.Joined.{stands}
 use Rattle.table_words.specs.declared.word.TableWord.{TableWord}
-use Rattle.table_words.specs.TableWords.{name_of, IsIdentifier, IsTableWord, name_in, file_in, asked_by, word_by, table_word}
-use Rattle.table_words.proofs.Identifiers.{IsName, bare, delimited, Named, is_name, identifies, IsOnePiece, one_piece}
+use Rattle.table_words.specs.TableWords.{name_of, IsTableWord, name_in, file_in, asked_by, word_by, table_word}
+use Rattle.table_words.proofs.Identifiers.{IsName, bare, delimited, Named, is_name, identifies, one_piece}
 
 -- what is found at the front stands there, and what stands there is found: laws of the lexer
 abbrev pub FoundStands : Type 0

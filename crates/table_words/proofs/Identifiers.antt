@@ -1,15 +1,11 @@
 -- A text that is one identifier is one piece: a word or a delimited name.
-use Rattle.std.proofs.Common.{◌≡◌, ℕ, ◌+◌, ◌*◌, ◌≤◌, ◌<◌, ◌==◌, ◌||◌, ◌&&◌, nat_lt, Bool, true, false, not, List, [], ◌∷◌, ◌++◌, length, Option, None, Some, is_none, refl, sym, ap, ◌∙◌, subst, arith, append-nil, length-append, zero-add}
-use Rattle.std.specs.List.{list_all, flat_map}
-use Rattle.std.proofs.lemmas.Bool.Decides.{Decides-eqb, nat_tests}
-use Rattle.pgq_base.specs.Files.{equals_sign}
-use Rattle.sql_lexer.specs.declared.fault.Fault.{Fault}
+use Rattle.std.proofs.Common.{◌≡◌, ℕ, ◌+◌, ◌*◌, ◌≤◌, ◌<◌, ◌==◌, ◌||◌, ◌&&◌, nat_lt, Bool, true, false, List, [], ◌∷◌, ◌++◌, length, Option, None, Some, is_none, refl, sym, ap, ◌∙◌, subst, arith, append-nil, length-append, zero-add}
+use Rattle.std.proofs.lemmas.Bool.Decides.{nat_tests}
 use Rattle.sql_lexer.specs.declared.token.Token.{Token}
 use Rattle.sql_lexer.specs.declared.token.Kind.{Kind}
-use Rattle.sql_lexer.specs.declared.token.Kind.TheVariants as kind
-use Rattle.sql_lexer.specs.Pieces.{Piece, Space, LineComment, BlockComment, Word, Number, Decimal, Delimited, Literal, Symbol, bytes_of, doubled, name_quote, IsWord, IsPiece, Stands, IsCut}
-use Rattle.sql_lexer.specs.Faults.{fault_of, utf8_fault}
-use Rattle.sql_lexer.specs.Tokens.{kind_of, word_kind, token, tokens_at, tokens_from, are_sound}
+use Rattle.sql_lexer.specs.Pieces.{Piece, Space, LineComment, BlockComment, Word, Number, Decimal, Delimited, Literal, Symbol, bytes_of, doubled, name_quote, IsPiece, Stands, IsCut}
+use Rattle.sql_lexer.specs.Faults.{fault_of}
+use Rattle.sql_lexer.specs.Tokens.{kind_of, token, tokens_from, are_sound}
 use Rattle.sql_lexer.specs.Texts.{AreTokens}
 use Rattle.sql_lexer.specs.Joining.{ends_before}
 use Rattle.sql_lexer.proofs.Joined.{stands}

@@ -1,5 +1,5 @@
 -- What a word TABLE=FILE of a command line asks for. The form is this project's own.
-use Rattle.std.specs.Prelude.{◌≡◌, ℕ, ◌≤◌, ◌==◌, ◌&&◌, cond, List, [], ◌∷◌, ◌++◌, length, drop, Option, None, Some, option_and_then}
+use Rattle.std.specs.Prelude.{◌≡◌, ℕ, ◌≤◌, ◌==◌, ◌&&◌, cond, List, [], ◌∷◌, ◌++◌, length, drop, Option, None, Some}
 use Rattle.pgq_base.specs.Files.{equals_sign}
 use Rattle.sql_lexer.specs.declared.fault.Fault.{Fault}
 use Rattle.sql_lexer.specs.declared.token.Token.{Token}
@@ -55,6 +55,16 @@ word_by word (Some piece) = asked_by (name_in (fault_of piece) (kind_of piece)) 
 -- what the word asks for, by the piece at its front
 abbrev pub table_word : List ℕ → Option TableWord
 table_word word = word_by word (front word)
+
+abbrev pub together : Option TableWord → Option (List TableWord) → Option (List TableWord)
+together None more = None
+together (Some asked) None = None
+together (Some asked) (Some more) = Some (asked ∷ more)
+
+-- what some words ask for, if each of them has the form
+abbrev pub table_words : List (List ℕ) → Option (List TableWord)
+table_words [] = Some []
+table_words (word ∷ words) = together (table_word word) (table_words words)
 
 -- ---- words of private functions
 

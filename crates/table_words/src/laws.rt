@@ -1,7 +1,8 @@
-ghost use Rattle.std.specs.Prelude.{◌≡◌, ◌↔◌, false, List, ℕ, Some};
-ghost use Rattle.pgq_base.specs.Files.{after_equals};
+ghost use Rattle.std.specs.Prelude.{◌≡◌, ◌↔◌, ◌∷◌, false, List, ℕ, Some};
+ghost use Rattle.multisets.specs.Bags.{IsIn};
+ghost use Rattle.pgq_base.specs.Files.{after_equals, sample_word, IsAsked};
 ghost use Rattle.table_words.specs.declared.word.TableWord.{TableWord};
-ghost use Rattle.table_words.specs.TableWords.{table_word, IsTableWord};
+ghost use Rattle.table_words.specs.TableWords.{table_word, table_words, IsTableWord};
 
 use sql_lexer::one_front;
 
@@ -16,6 +17,14 @@ pub fn words_of_one_form()
 /// a file that the word asks for.
 pub fn files_behind_equals()
     ensures { (word : List ℕ) (asked : TableWord) → table_word word ≡ Some asked → after_equals false word ≡ Some asked.file }
+{
+    one_front();
+}
+
+/// The files of the words behind a command's first three are files that its words ask for, but for `sample`.
+pub fn files_are_asked()
+    ensures { (command schema query : List ℕ) (words : List (List ℕ)) (asked : List TableWord) → (command ≡ sample_word → ⊥) → table_words words ≡ Some asked
+        → (table : TableWord) → IsIn table asked → IsAsked table.file (command ∷ schema ∷ query ∷ words) }
 {
     one_front();
 }

@@ -1,4 +1,5 @@
-use crate::{TableWord, table_word};
+use crate::{TableWord, table_word, table_words};
+use pgq_base::{List, Text};
 use std::alloc::Global;
 use std::test::Fail;
 
@@ -78,5 +79,19 @@ fn names_have_at_most_128_bytes(rt: HostRuntime) -> Result<(), Fail> {
         let longer = long_word(rt.alloc(), 129, delimited)?;
         assert!(rt; table_word(rt.alloc(), longer.as_str())?.is_none());
     }
+    Ok(())
+}
+
+#[test]
+fn words_in_a_row(rt: HostRuntime) -> Result<(), Fail> {
+    let mut words = List::new(rt.alloc());
+    words.push(Text::from_text(rt.alloc(), "person=f")?)?;
+    words.push(Text::from_text(rt.alloc(), "\"a b\"=g h")?)?;
+    match table_words(rt.alloc(), words.as_slice())? {
+        Some(asked) => assert_eq!(rt; asked.as_slice().len(), 2),
+        None => return Err("no words")?,
+    }
+    words.push(Text::from_text(rt.alloc(), "knows")?)?;
+    assert!(rt; table_words(rt.alloc(), words.as_slice())?.is_none());
     Ok(())
 }

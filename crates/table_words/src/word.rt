@@ -1,10 +1,10 @@
 ghost use Rattle.std.specs.Prelude.{◌≡◌, ◌<◌, ◌+◌, false, drop, length, option_map, slice_index, IfOk, IfSome};
 ghost use Rattle.pgq_base.specs.Files.{after_equals, equals_sign};
-ghost use Rattle.table_words.specs.TableWords.{table_word, AsksFor};
+ghost use Rattle.table_words.specs.TableWords.{table_word, table_words, AsksFor};
 
 use crate::identifier::identifier;
 use crate::laws::words_of_one_form;
-use pgq_base::{Name, NoMemory, Text};
+use pgq_base::{List, Name, NoMemory, Text};
 use std::alloc::Global;
 
 /// A word `TABLE=FILE`: the name of the table, folded as a bare name is or kept as a delimited one is, and
@@ -63,4 +63,18 @@ pub fn table_word(alloc: Global, word: &str) -> Result<Option<TableWord>, NoMemo
 {
     words_of_one_form();
     read_word(alloc, word)
+}
+
+/// What some words ask for, in their order, and None exactly where one of them has another form.
+pub fn table_words(alloc: Global, words: &[Text]) -> Result<Option<List<TableWord>>, NoMemory>
+    ensures { IfOk result (λ asked. asked ≡ table_words words.now) }
+{
+    let mut asked = List::new(alloc);
+    for word in words {
+        match table_word(alloc, word.as_text())? {
+            Some(table) => asked.push(table)?,
+            None => return Ok(None),
+        }
+    }
+    Ok(Some(asked))
 }
