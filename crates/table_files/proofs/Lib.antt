@@ -1,2 +1,3 @@
 mod Typing
 mod GivenTables
+mod PlacesNamed

@@ -1,12 +1,13 @@
 ghost use Rattle.std.specs.Prelude.{◌≡◌, ◌<◌, All, IfOk, IsTrue, length};
 ghost use Rattle.graph_ast.specs.Catalogs.{IsValidCatalog};
 
-use crate::{TableText, TablesRead, instance_of};
+use crate::{TableText, TablesRead, instance_of, table_places};
 use graph_ast::Catalog;
-use pgq_base::{Detail, Instance, List, NoMemory, Stop};
+use pgq_base::{Detail, Instance, List, NoMemory, Stop, Text};
 use sample_run::sample_catalog;
 use std::alloc::Global;
 use std::test::Fail;
+use table_words::table_words;
 
 // The place of a table and the text of its file, by the number of the case.
 static FILES: [(u32, u32, &[u8]); 22] = [
@@ -164,6 +165,61 @@ fn sizes_are_counted(rt: HostRuntime) -> Result<(), Fail> {
     for (before, text, due) in &SIZES {
         let found = added(rt.alloc(), &catalog, *before, text)?;
         assert!(rt; found == *due, "behind {before}");
+    }
+    Ok(())
+}
+
+// Words by the number of the case.
+static WORDS: [(u32, &str); 9] = [
+    (1, "person=f"),
+    (2, "knows=f"),
+    (2, "Person=f"),
+    (3, "person=f"),
+    (3, "\"PERSON\"=g"),
+    (4, "\"person\"=f"),
+    (5, "nobody=f"),
+    (6, "person=f"),
+    (6, "nobody=f"),
+];
+
+// The number of places, and the first of them; none where the words name no tables.
+static NAMED: [Option<(usize, u32)>; 7] = [
+    Some((0, 9)),
+    Some((1, 0)),
+    Some((2, 1)),
+    None,
+    None,
+    None,
+    None,
+];
+
+fn named(alloc: Global, catalog: &Catalog, case: u32) -> Result<Option<(usize, u32)>, Fail>
+    requires { IsValidCatalog catalog.now }
+{
+    let mut words = List::new(alloc);
+    for (number, word) in &WORDS {
+        if *number == case {
+            words.push(Text::from_text(alloc, word)?)?;
+        }
+    }
+    let Some(asked) = table_words(alloc, words.as_slice())? else {
+        return Err("a word of another form")?;
+    };
+    match table_places(alloc, catalog, asked.as_slice())? {
+        Some(places) => match places.as_slice() {
+            [] => Ok(Some((0, 9))),
+            [first, ..] => Ok(Some((places.as_slice().len(), *first))),
+        },
+        None => Ok(None),
+    }
+}
+
+#[test]
+fn places_of_tables(rt: HostRuntime) -> Result<(), Fail> {
+    let catalog = catalog(rt.alloc())?;
+    for (case, due) in NAMED.iter().enumerate() {
+        let found = named(rt.alloc(), &catalog, case as u32)?;
+        assert!(rt; found == *due, "at {case}");
     }
     Ok(())
 }
