@@ -1,6 +1,6 @@
 -- Words one after another.
-use Rattle.std.proofs.Common.{◌≡◌, inl, inr, ℕ, suc, ◌+◌, ◌<◌, List, [], ◌∷◌, ◌++◌, length, drop, get_or, Option, None, Some, refl, sym, ap, ◌∙◌, subst, arith, append_assoc}
-use Rattle.std.specs.Prelude.{slice_get}
+use Rattle.std.proofs.Common.{◌≡◌, inl, inr, ℕ, zero, suc, ◌+◌, ◌<◌, List, [], ◌∷◌, ◌++◌, length, drop, get_or, Option, None, Some, refl, sym, ap, ◌∙◌, subst, arith, append_assoc}
+use Rattle.std.specs.Prelude.{All, slice_get}
 use Rattle.std.proofs.lemmas.List.{drop_more}
 use Rattle.multisets.specs.Bags.{IsIn}
 use Rattle.pgq_base.specs.Files.{sample_word, IsAsked}
@@ -68,11 +68,20 @@ of_word (word ∷ words) asked e table h = by (table_word word) (table_words wor
         let same : one ∷ others ≡ asked = same_list whole in
         pick one others f (more others r table) (subst (IsIn table) (sym same) h)
 
-pub asked_files : FoundStands → (command schema query : List ℕ) (words : List (List ℕ)) (asked : List TableWord) → (command ≡ sample_word → ⊥) → table_words words ≡ Some asked
+asked_file : FoundStands → (command schema query : List ℕ) (words : List (List ℕ)) (asked : List TableWord) → (command ≡ sample_word → ⊥) → table_words words ≡ Some asked
     → (table : TableWord) → IsIn table asked → IsAsked table.file (command ∷ schema ∷ query ∷ words)
-asked_files found command schema query words asked other e table h =
+asked_file found command schema query words asked other e table h =
     let w = of_word words asked e table h in
     record {
       command = λ same. other (inside same);
       place = inr (inr (suc (suc (suc w.place)), omega arith, (w.word, w.there, file_is w.word table (is_word found w.word table w.asks))));
     }
+
+in_at : (asked : List TableWord) (k : ℕ) (d : TableWord) → k < length asked → IsIn (get_or asked k d) asked
+in_at [] k d h = absurd (omega arith)
+in_at (x ∷ xs) zero d h = inl refl
+in_at (x ∷ xs) (suc k) d h = inr (in_at xs k d (omega arith))
+
+pub asked_files : FoundStands → (command schema query : List ℕ) (words : List (List ℕ)) (asked : List TableWord) → (command ≡ sample_word → ⊥) → table_words words ≡ Some asked
+    → All (λ table. IsAsked table.file (command ∷ schema ∷ query ∷ words)) asked
+asked_files found command schema query words asked other e k d h = asked_file found command schema query words asked other e (get_or asked k d) (in_at asked k d h)

@@ -1,5 +1,4 @@
-ghost use Rattle.std.specs.Prelude.{◌≡◌, ◌↔◌, ◌∷◌, false, List, ℕ, Some};
-ghost use Rattle.multisets.specs.Bags.{IsIn};
+ghost use Rattle.std.specs.Prelude.{◌≡◌, ◌↔◌, ◌∷◌, All, false, List, ℕ, Some};
 ghost use Rattle.pgq_base.specs.Files.{after_equals, sample_word, IsAsked};
 ghost use Rattle.table_words.specs.declared.word.TableWord.{TableWord};
 ghost use Rattle.table_words.specs.TableWords.{table_word, table_words, IsTableWord};
@@ -24,7 +23,7 @@ pub fn files_behind_equals()
 /// The files of the words behind a command's first three are files that its words ask for, but for `sample`.
 pub fn files_are_asked()
     ensures { (command schema query : List ℕ) (words : List (List ℕ)) (asked : List TableWord) → (command ≡ sample_word → ⊥) → table_words words ≡ Some asked
-        → (table : TableWord) → IsIn table asked → IsAsked table.file (command ∷ schema ∷ query ∷ words) }
+        → All (λ table. IsAsked table.file (command ∷ schema ∷ query ∷ words)) asked }
 {
     one_front();
 }
