@@ -2,7 +2,7 @@
 use Rattle.std.proofs.Common.{◌≡◌, ℕ, zero, suc, ◌+◌, ◌<◌, nat_eq, Bool, true, false, not, ◌&&◌, cond, List, [], ◌∷◌, ◌++◌, length, drop, get_or, Option, None, Some, refl, sym, ap, ◌∙◌, arith, append_assoc, append-nil}
 use Rattle.std.specs.Prelude.{◌||◌, All, option_and_then, bytes_eq}
 use Rattle.std.specs.List.{list_any}
-use Rattle.std.proofs.lemmas.List.{drop_more}
+use Rattle.std.proofs.lemmas.List.{drop_more, length-append}
 use Rattle.std.proofs.lemmas.List.Folds.{list_any-append}
 use Rattle.std.proofs.lemmas.List.Quantifiers.{position-Some}
 use Rattle.std.proofs.lemmas.Bool.Decides.{Decides-eqb}
@@ -86,11 +86,12 @@ ahead_one done p (Some more) = ap Some (sym (append_assoc done (p ∷ []) more))
 -- how far the words are read
 pub record Placed (catalog : Catalog) (words : List TableWord) (i : ℕ) (done : List ℕ) : Type 0 where
   pub named : places_named catalog words ≡ ahead done (places_named catalog (drop i words))
+  pub each : length done ≡ i
   pub differ : all_different nat_eq done ≡ true
   pub within : All (λ place. place < length catalog.tables) done
 
 pub placed_none : (catalog : Catalog) (words : List TableWord) → Placed catalog words 0 []
-placed_none catalog words = record { named = ahead_none (places_named catalog words); differ = refl; within = λ k d h. absurd (omega arith) }
+placed_none catalog words = record { named = ahead_none (places_named catalog words); each = refl; differ = refl; within = λ k d h. absurd (omega arith) }
 
 within_more : (n : ℕ) (done : List ℕ) (p : ℕ) → All (λ place. place < n) done → p < n → All (λ place. place < n) (done ++ p ∷ [])
 within_more n [] p all here zero d h = here
@@ -107,6 +108,7 @@ module _ (catalog : Catalog) (words : List TableWord) (i : ℕ) (word : TableWor
   pub placed_more : (p : ℕ) → Some p ≡ table_place catalog word.table → list_any (nat_eq p) done ≡ false → Placed catalog words (i + 1) (done ++ p ∷ [])
   placed_more p found fresh = record {
     named = named_now ∙ ap (λ o. ahead done (put_first o (places_named catalog (drop (i + 1) words)))) (sym found) ∙ ahead_one done p (places_named catalog (drop (i + 1) words));
+    each = (let so = so_far.each in let more : length (done ++ p ∷ []) ≡ length done + 1 = length-append done (p ∷ []) in omega arith);
     differ = different_more done p ∙ (ap (λ b. b && not (list_any (nat_eq p) done)) so_far.differ ∙ ap not fresh);
     within = within_more (length catalog.tables) done p so_far.within (position-Some (λ (table : Table). bytes_eq table.name word.table) catalog.tables p word_table (sym found)).0;
   }

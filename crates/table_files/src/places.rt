@@ -24,6 +24,7 @@ pub fn table_places(
 ) -> Result<Option<List<u32>>, NoMemory>
     requires { IsValidCatalog catalog.now }
     ensures value { IfOk result (λ places. places ≡ table_places catalog.now words.now) }
+    ensures each { IfOk result (λ places. IfSome places (λ places. length places ≡ length words.now)) }
     ensures within { IfOk result (λ places. IfSome places (All (λ place. place < length catalog.now.tables))) }
     ensures apart { IfOk result (λ places. IfSome places IsWithoutRepeats) }
 {
