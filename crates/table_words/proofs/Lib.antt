@@ -2,4 +2,4 @@ mod Identifiers
 mod Forms
 mod Names
 mod Asking
-mod Lists
+pub mod Lists

@@ -1,6 +1,7 @@
 -- Words one after another.
-use Rattle.std.proofs.Common.{◌≡◌, inl, inr, ℕ, zero, suc, ◌+◌, ◌<◌, List, [], ◌∷◌, ◌++◌, length, drop, get_or, Option, None, Some, refl, sym, ap, ◌∙◌, subst, arith, append_assoc}
-use Rattle.std.specs.Prelude.{All, slice_get}
+use Rattle.std.proofs.Common.{◌≡◌, inl, inr, ℕ, zero, suc, ◌+◌, ◌<◌, ◌≤◌, zero-add, true, false, List, [], ◌∷◌, ◌++◌, length, drop, get_or, Option, None, Some, refl, sym, ap, ◌∙◌, subst, arith, append_assoc}
+use Rattle.std.specs.Prelude.{All, bytes_eq, slice_get}
+use Rattle.std.proofs.lemmas.Slice.Eq.{bytes_eq-Decides}
 use Rattle.std.proofs.lemmas.List.{drop_more}
 use Rattle.multisets.specs.Bags.{IsIn}
 use Rattle.pgq_base.specs.Files.{sample_word, IsAsked}
@@ -68,13 +69,20 @@ of_word (word ∷ words) asked e table h = by (table_word word) (table_words wor
         let same : one ∷ others ≡ asked = same_list whole in
         pick one others f (more others r table) (subst (IsIn table) (sym same) h)
 
-asked_file : FoundStands → (command schema query : List ℕ) (words : List (List ℕ)) (asked : List TableWord) → (command ≡ sample_word → ⊥) → table_words words ≡ Some asked
-    → (table : TableWord) → IsIn table asked → IsAsked table.file (command ∷ schema ∷ query ∷ words)
-asked_file found command schema query words asked other e table h =
-    let w = of_word words asked e table h in
+get_behind : {A : Type 0} (n : ℕ) (xs : List A) (p : ℕ) → slice_get (drop n xs) p ≡ slice_get xs (n + p)
+get_behind zero xs p = ap (slice_get xs) (sym (zero-add p))
+get_behind (suc n) [] p = refl
+get_behind (suc n) (x ∷ xs) p =
+    let same : suc n + p ≡ suc (n + p) = omega arith in
+    get_behind n xs p ∙ ap (slice_get (x ∷ xs)) (sym same)
+
+asked_file : FoundStands → (words : List (List ℕ)) (asked : List TableWord) → (slice_get words 0 ≡ Some sample_word → ⊥) → table_words (drop 3 words) ≡ Some asked
+    → (table : TableWord) → IsIn table asked → IsAsked table.file words
+asked_file found words asked other e table h =
+    let w = of_word (drop 3 words) asked e table h in
     record {
-      command = λ same. other (inside same);
-      place = inr (inr (suc (suc (suc w.place)), omega arith, (w.word, w.there, file_is w.word table (is_word found w.word table w.asks))));
+      command = other;
+      place = inr (inr (3 + w.place, omega arith, (w.word, sym (get_behind 3 words w.place) ∙ w.there, file_is w.word table (is_word found w.word table w.asks))));
     }
 
 in_at : (asked : List TableWord) (k : ℕ) (d : TableWord) → k < length asked → IsIn (get_or asked k d) asked
@@ -82,6 +90,14 @@ in_at [] k d h = absurd (omega arith)
 in_at (x ∷ xs) zero d h = inl refl
 in_at (x ∷ xs) (suc k) d h = inr (in_at xs k d (omega arith))
 
-pub asked_files : FoundStands → (command schema query : List ℕ) (words : List (List ℕ)) (asked : List TableWord) → (command ≡ sample_word → ⊥) → table_words words ≡ Some asked
-    → All (λ table. IsAsked table.file (command ∷ schema ∷ query ∷ words)) asked
-asked_files found command schema query words asked other e k d h = asked_file found command schema query words asked other e (get_or asked k d) (in_at asked k d h)
+pub asked_files : FoundStands → (words : List (List ℕ)) (asked : List TableWord) → (slice_get words 0 ≡ Some sample_word → ⊥) → table_words (drop 3 words) ≡ Some asked
+    → All (λ table. IsAsked table.file words) asked
+asked_files found words asked other e k d h = asked_file found words asked other e (get_or asked k d) (in_at asked k d h)
+
+-- the first word is another one than `sample`
+pub other_command : (words : List (List ℕ)) (command : List ℕ) → 1 ≤ length words → command ≡ get_or words 0 command → bytes_eq command sample_word ≡ false → slice_get words 0 ≡ Some sample_word → ⊥
+other_command [] command some is differs e = absurd (omega arith)
+other_command (word ∷ words) command some is differs e =
+    let same : command ≡ sample_word = is ∙ inside e in
+    let yes : bytes_eq command sample_word ≡ true = (bytes_eq-Decides command sample_word).1 same in
+    cc

@@ -1,4 +1,4 @@
-ghost use Rattle.std.specs.Prelude.{◌≡◌, ◌↔◌, ◌∷◌, All, false, List, ℕ, Some};
+ghost use Rattle.std.specs.Prelude.{◌≡◌, ◌↔◌, All, drop, false, List, ℕ, slice_get, Some};
 ghost use Rattle.pgq_base.specs.Files.{after_equals, sample_word, IsAsked};
 ghost use Rattle.table_words.specs.declared.word.TableWord.{TableWord};
 ghost use Rattle.table_words.specs.TableWords.{table_word, table_words, IsTableWord};
@@ -22,8 +22,8 @@ pub fn files_behind_equals()
 
 /// The files of the words behind a command's first three are files that its words ask for, but for `sample`.
 pub fn files_are_asked()
-    ensures { (command schema query : List ℕ) (words : List (List ℕ)) (asked : List TableWord) → (command ≡ sample_word → ⊥) → table_words words ≡ Some asked
-        → All (λ table. IsAsked table.file (command ∷ schema ∷ query ∷ words)) asked }
+    ensures { (words : List (List ℕ)) (asked : List TableWord) → (slice_get words 0 ≡ Some sample_word → ⊥) → table_words (drop 3 words) ≡ Some asked
+        → All (λ table. IsAsked table.file words) asked }
 {
     one_front();
 }
