@@ -6,3 +6,6 @@ mod stops;
 
 pub use loads::load_instance;
 pub use stops::TablesStop;
+
+#[cfg(test)]
+mod tests;
