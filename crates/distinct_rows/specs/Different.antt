@@ -1,5 +1,5 @@
 -- The rows of a list that are met for the first time.
-use Rattle.std.specs.Prelude.{cond, List, [], ◌∷◌}
+use Rattle.std.specs.Prelude.{cond, [], ◌∷◌}
 use Rattle.std.specs.List.{list_any}
 use Rattle.pgq_base.specs.declared.rows.Row.{Row}
 use Rattle.pgq_base.specs.Instances.{RowValues, TableRows, same_values}

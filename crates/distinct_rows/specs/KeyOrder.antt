@@ -1,5 +1,5 @@
 -- Rows in a set.
-use Rattle.std.specs.Prelude.{List, Bool}
+use Rattle.std.specs.Prelude.{Bool}
 use Rattle.std.specs.List.{list_any}
 use Rattle.std.specs.declared.cmp.Ordering.{Ordering}
 use Rattle.std.specs.Cmp.{IsTotalOrder, IsEquivalence}
@@ -7,7 +7,6 @@ use Rattle.std.specs.Cmp.Lexicographic.{slice_cmp}
 use Rattle.std.specs.Ordering.{on, eq_by_cmp}
 use Rattle.std.specs.BTreeSet.{BTreeSet}
 use Rattle.std.proofs.lemmas.Cmp.{lists_total, on_total, eq_by_cmp_equiv}
-use Rattle.pgq_base.specs.declared.value.Value.{Value}
 use Rattle.pgq_base.specs.Values.{value_order}
 use Rattle.pgq_base.specs.Instances.{RowValues, same_values}
 use Rattle.pgq_base.proofs.TotalOrder.{value_order_total}

@@ -1,7 +1,6 @@
 -- The tables of the generated run fit its schema.
-use Rattle.std.proofs.Common.{◌≡◌, ℕ, zero, suc, ◌+◌, ◌-◌, ◌*◌, ◌%◌, ◌<◌, ◌≤◌, ◌^◌, ◌⊎◌, inl, inr, Bool, true, false, not, ℤ, pos, negsuc, List, [], ◌∷◌, ◌++◌, map, filter, flat_map, length, get_or, Result, Ok, Err, IfOk, refl, sym, ap, ◌∙◌, subst, arith, length-append, rules}
+use Rattle.std.proofs.Common.{◌≡◌, ℕ, zero, suc, ◌+◌, ◌-◌, ◌*◌, ◌%◌, ◌<◌, ◌≤◌, inl, inr, Bool, true, false, not, pos, negsuc, List, [], ◌∷◌, ◌++◌, map, flat_map, length, Result, Ok, Err, IfOk, refl, sym, ap, ◌∙◌, subst, arith}
 use Rattle.std.specs.Prelude.{codes, decimal}
-use Rattle.std.specs.List.{range_with_len}
 use Rattle.std.specs.Str.{chars, IsAscii}
 use Rattle.std.proofs.Math.Nat.{mod-lt}
 use Rattle.std.proofs.lemmas.Int.{ints}
@@ -13,16 +12,15 @@ use Rattle.multisets.proofs.Maps.{flat_map_without}
 use Rattle.multisets.proofs.Kept.{filter_without}
 use Rattle.graph_meaning.proofs.Members.{in_map, from_map, map_once, from_flat, in_range, from_range, range_once}
 use Rattle.pgq_base.specs.declared.value.Value.{Value}
-use Rattle.pgq_base.specs.declared.value.Value.TheVariants.{Number, Text}
+use Rattle.pgq_base.specs.declared.value.Value.TheVariants.{Number}
 use Rattle.pgq_base.specs.declared.rows.Instance.{Instance}
-use Rattle.pgq_base.specs.Instances.{RowValues, TableRows, InstanceRows, values_at, rows_at}
-use Rattle.graph_ast.specs.declared.catalog.Table.{Table}
+use Rattle.pgq_base.specs.Instances.{RowValues, TableRows, values_at, rows_at}
 use Rattle.graph_ast.specs.declared.catalog.Key.{Key}
 use Rattle.graph_ast.specs.declared.catalog.Reference.{Reference}
-use Rattle.graph_ast.specs.declared.catalog.ColumnType.TheVariants.{Integer, VarChar}
+use Rattle.graph_ast.specs.declared.catalog.ColumnType.TheVariants.{Integer}
 use Rattle.graph_ast.specs.Fits.{IsBetween, IsValueOf, IsRowOf, IsUnique, IsMet, AreRowsOf, Fits, has_null}
 use Rattle.graph_ast.specs.Lookups.{table_at}
-use Rattle.sample_run.specs.SampleCatalog.{column, first_key, to_person, person_table, knows_table, sample_catalog}
+use Rattle.sample_run.specs.SampleCatalog.{column, first_key, person_table, knows_table, sample_catalog}
 use Rattle.sample_run.specs.SampleRun.{numbers_to, person_name, person_row, knows_row, rows_for, person_rows, knows_rows, sample_rows, shown_tables}
 
 -- ---- values

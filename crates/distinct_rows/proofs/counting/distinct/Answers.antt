@@ -1,4 +1,4 @@
-use Rattle.std.proofs.Common.{◌≡◌, ◌+◌, ◌∙◌, cond, ap, sym, subst}
+use Rattle.std.proofs.Common.{◌+◌, ◌∙◌, cond, ap, sym, subst}
 use Rattle.std.specs.List.{list_any}
 use Rattle.pgq_base.specs.Instances.{same_values}
 use Rattle.distinct_rows.specs.KeyOrder.{holds, values_in}
