@@ -1,5 +1,4 @@
-ghost use Rattle.std.specs.Prelude.{◌≡◌, ◌∷◌, ◌++◌, ◌≤◌, [], IfOk, OnOk, codes, decimal, map};
-ghost use Rattle.std.specs.List.{range_with_len};
+ghost use Rattle.std.specs.Prelude.{◌≡◌, ◌++◌, ◌≤◌, IfOk, OnOk, map};
 ghost use Rattle.graph_ast.specs.Fits.{Fits};
 ghost use Rattle.sample_run.specs.SampleCatalog.{sample_catalog};
 ghost use Rattle.sample_run.specs.SampleRun.{knows_row, knows_rows, person_name, person_row, person_rows, rows_for, sample_rows, shown_rows, shown_tables};

@@ -1,4 +1,4 @@
-ghost use Rattle.std.specs.Prelude.{◌≡◌, ◌<◌, ◌≤◌, ◌+◌, ◌-◌, IfOk, length, slice_set};
+ghost use Rattle.std.specs.Prelude.{◌≡◌, ◌<◌, ◌≤◌, ◌-◌, IfOk, length, slice_set};
 ghost use Rattle.pgq_base.specs.Answers.{Gives};
 ghost use Rattle.graph_ast.specs.Catalogs.{IsValidCatalog};
 ghost use Rattle.graph_ast.specs.Fits.{Fits, without_rows};

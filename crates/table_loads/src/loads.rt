@@ -1,6 +1,5 @@
-ghost use Rattle.std.specs.Prelude.{◌≡◌, ◌<◌, ◌≤◌, ◌-◌, All, IfOk, IfSome, OnErr, IsErrOf, length};
+ghost use Rattle.std.specs.Prelude.{◌≡◌, ◌<◌, ◌≤◌, All, IfOk, IfSome, length};
 ghost use Rattle.pgq_base.specs.Files.{IsAsked};
-ghost use Rattle.pgq_base.specs.Loads.{IsLonger};
 ghost use Rattle.graph_ast.specs.Catalogs.{IsValidCatalog};
 ghost use Rattle.graph_ast.specs.Fits.{Fits};
 ghost use Rattle.csv_tables.specs.Constraints.{instance_rows};
