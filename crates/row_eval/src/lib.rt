@@ -1,0 +1,19 @@
+//! Evaluation of SQL queries over tables of rows.
+#![tactic(auto)]
+
+mod access;
+mod chains;
+mod collect;
+mod frame;
+mod index;
+mod joins;
+mod legs;
+mod levels;
+mod scope;
+mod source;
+mod stage;
+mod steps;
+mod ties;
+
+pub use source::RowSource;
+pub use steps::Steps;
