@@ -19,9 +19,8 @@ use Rattle.graph_ast.specs.declared.catalog.Catalog.{Catalog}
 use Rattle.sql_algebra.specs.declared.tree.ColumnLeaf.{ColumnLeaf}
 use Rattle.sql_algebra.specs.Catalogs.{column_place}
 use Rattle.sql_algebra.specs.Tuples.{leaf_value}
-use Rattle.row_eval.specs.declared.scope.Reached.{Reached}
 use Rattle.row_eval.specs.Slots.{Stack, fitted, slot_value}
-use Rattle.row_eval.specs.Scopes.{tuple_of, slot_in_reach, leaf_at_slot, leaf_expr_of}
+use Rattle.row_eval.specs.Scopes.{Placed, tuple_of, slot_in_reach, leaf_at_slot, leaf_expr_of}
 
 fitted_null : (c : Class) → fitted c value.Null ≡ value.Null
 fitted_null class.Truth = refl
@@ -39,19 +38,19 @@ fitted_same c (value.Date x) h = ap (λ d. fitted d (value.Date x)) h
 fitted_same c (value.Text t) h = ap (λ d. fitted d (value.Text t)) h
 
 module _ (catalog : Catalog) (stack : Stack) where
-  pub resolved : (reach : List Reached) (leaf : ColumnLeaf)
+  pub resolved : (reach : List Placed) (leaf : ColumnLeaf)
       → value_in (slot_value stack) (leaf_expr_of catalog reach leaf) ≡ fitted leaf.class (leaf_value catalog (tuple_of reach stack) leaf)
   resolved [] leaf = (values (slot_value stack)).null leaf.class ∙ sym (fitted_null leaf.class)
-  resolved (r ∷ reach) leaf = go (bytes_eq r.item.now.alias leaf.alias) (resolved reach leaf)
+  resolved (r ∷ reach) leaf = go (bytes_eq r.item.alias leaf.alias) (resolved reach leaf)
     where
       go : (b : Bool) → value_in (slot_value stack) (leaf_expr_of catalog reach leaf) ≡ fitted leaf.class (leaf_value catalog (tuple_of reach stack) leaf)
-          → value_in (slot_value stack) (leaf_at_slot leaf (cond b (Some (record { item = r.place; column = column_place catalog r.item.now.table leaf.column; class = leaf.class })) (slot_in_reach catalog reach leaf)))
-          ≡ fitted leaf.class (cond b (value_at (get_or stack r.place []) (column_place catalog r.item.now.table leaf.column)) (leaf_value catalog (tuple_of reach stack) leaf))
-      go true h = (values (slot_value stack)).leaf (record { item = r.place; column = column_place catalog r.item.now.table leaf.column; class = leaf.class })
+          → value_in (slot_value stack) (leaf_at_slot leaf (cond b (Some (record { item = r.place; column = column_place catalog r.item.table leaf.column; class = leaf.class })) (slot_in_reach catalog reach leaf)))
+          ≡ fitted leaf.class (cond b (value_at (get_or stack r.place []) (column_place catalog r.item.table leaf.column)) (leaf_value catalog (tuple_of reach stack) leaf))
+      go true h = (values (slot_value stack)).leaf (record { item = r.place; column = column_place catalog r.item.table leaf.column; class = leaf.class })
       go false h = h
 
   -- the value of a resolved expression, where each leaf's value is of its class
-  pub resolved_value : (reach : List Reached) (e : Expr ColumnLeaf) → EachLeaf (λ l. IsOf l.class (leaf_value catalog (tuple_of reach stack) l)) e
+  pub resolved_value : (reach : List Placed) (e : Expr ColumnLeaf) → EachLeaf (λ l. IsOf l.class (leaf_value catalog (tuple_of reach stack) l)) e
       → value_in (slot_value stack) (mapped (leaf_expr_of catalog reach) e) ≡ value_in (leaf_value catalog (tuple_of reach stack)) e
   resolved_value reach e typed =
       mapped_value (leaf_expr_of catalog reach) (slot_value stack) (λ l. fitted l.class (leaf_value catalog (tuple_of reach stack) l)) e (each_from_all _ (resolved reach) (leaves_in e))

@@ -1,4 +1,5 @@
 ghost use Rattle.std.specs.Prelude.{◌≡◌, ◌+◌, ◌<◌, ◌≤◌, ◌++◌, ◌∷◌, [], IfOk, length, List as Seq};
+ghost use Rattle.row_eval.specs.declared.access.Access.{Access as Reading};
 ghost use Rattle.row_eval.specs.declared.index.Index.{Index as Built};
 ghost use Rattle.pgq_base.specs.Instances.{rows_at};
 ghost use Rattle.row_eval.specs.Slots.{Stack};
@@ -19,7 +20,8 @@ use sqlite_items::Boxed;
 use std::alloc::Global;
 use std::sync::ledger::Ledger;
 
-fn kept_by(alloc: Global, tests: List<Condition>, rest: Stage) -> Result<Stage, NoMemory>
+/// The conditions before a stage.
+pub fn kept_by(alloc: Global, tests: List<Condition>, rest: Stage) -> Result<Stage, NoMemory>
     ensures { IfOk result (λ e. e ≡ Keep tests rest) }
 {
     Ok(Stage::Keep(tests, Boxed::new(alloc, rest)?))
@@ -75,6 +77,7 @@ pub fn join_one<'r, R: RowSource, L: Ledger>(
     requires { table < length (R.tables rows.now) }
     ensures found { IfOk result (λ p. (s : Stack) → length s ≡ place → found (R.tables rows.now) p.stage s ≡ passed_on (found (R.tables rows.now) planned.entry.stage) tests s (rows_at (R.tables rows.now) table)) }
     ensures served { IfOk result (λ p. AllServed (R.tables rows.now) planned.entry.indexes.items (accesses planned.entry.stage) → AllServed (R.tables rows.now) p.indexes.items (accesses p.stage)) }
+    ensures kept { IfOk result (λ p. (all : Seq Reading) → AllServed (R.tables rows.now) planned.entry.indexes.items all → AllServed (R.tables rows.now) p.indexes.items all) }
     ensures steps { steps.new ≤ steps.old + length (rows_at (R.tables rows.now) table) }
 {
     let Planned { stage, indexes } = planned;

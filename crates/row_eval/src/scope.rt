@@ -6,7 +6,7 @@ ghost use Rattle.expr_tree.specs.Classes.{IsWellClassed, class_in};
 ghost use Rattle.pgq_base.specs.declared.value.Class.TheVariants.{Truth as TruthClass};
 ghost use Rattle.sql_algebra.specs.Soundness.{leaf_class};
 ghost use Rattle.sql_algebra.specs.Catalogs.{column_place};
-ghost use Rattle.row_eval.specs.Scopes.{slot_in_reach, leaf_expr_of};
+ghost use Rattle.row_eval.specs.Scopes.{placed, slot_in_reach, leaf_expr_of};
 
 use crate::frame::{Condition, Slot};
 use expr_tree::{Expr, map_leaves};
@@ -67,7 +67,7 @@ fn place_of_column(catalog: &Catalog, table: &Name, column: &Name) -> usize
 
 /// The slot of a leaf: the first item in reach that has its alias counts.
 pub fn slot_of(catalog: &Catalog, reach: &[Reached<'_>], leaf: &ColumnLeaf) -> Option<Slot>
-    ensures { result ≡ slot_in_reach catalog.now reach.now leaf.now }
+    ensures { result ≡ slot_in_reach catalog.now (placed reach.now) leaf.now }
 {
     for reached in reach {
         if reached.item.alias.as_bytes() == leaf.alias.as_bytes() {
@@ -82,7 +82,7 @@ pub fn slot_of(catalog: &Catalog, reach: &[Reached<'_>], leaf: &ColumnLeaf) -> O
 }
 
 fn leaf_expr(catalog: &Catalog, reach: &[Reached<'_>], leaf: &ColumnLeaf) -> Expr<Slot>
-    ensures { result ≡ leaf_expr_of catalog.now reach.now leaf.now }
+    ensures { result ≡ leaf_expr_of catalog.now (placed reach.now) leaf.now }
 {
     match slot_of(catalog, reach, leaf) {
         Some(slot) => Expr::Leaf(slot),
@@ -97,13 +97,13 @@ pub fn resolve(
     reach: &[Reached<'_>],
     expr: &Expr<ColumnLeaf>,
 ) -> Result<Expr<Slot>, NoMemory>
-    ensures { IfOk result (λ e. e ≡ mapped (leaf_expr_of catalog.now reach.now) expr.now) }
+    ensures { IfOk result (λ e. e ≡ mapped (leaf_expr_of catalog.now (placed reach.now)) expr.now) }
 {
     map_leaves(
         alloc,
         expr,
         |leaf: &ColumnLeaf| -> Result<Expr<Slot>, NoMemory>
-            ensures { result ≡ Ok (leaf_expr_of catalog.entry.now reach.entry.now leaf.entry.now) }
+            ensures { result ≡ Ok (leaf_expr_of catalog.entry.now (placed reach.entry.now) leaf.entry.now) }
         { Ok(leaf_expr(catalog, reach, leaf)) },
     )
 }
@@ -117,7 +117,7 @@ pub fn resolve_condition(
 ) -> Result<Condition, NoMemory>
     requires well_classed { IsWellClassed leaf_class expr.now }
     requires truth { class_in leaf_class expr.now ≡ TruthClass }
-    ensures { IfOk result (λ c. c.expr ≡ mapped (leaf_expr_of catalog.now reach.now) expr.now) }
+    ensures { IfOk result (λ c. c.expr ≡ mapped (leaf_expr_of catalog.now (placed reach.now)) expr.now) }
 {
     let expr = resolve(alloc, catalog, reach, expr)?;
     Ok(Condition { expr })

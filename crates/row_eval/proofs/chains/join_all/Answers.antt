@@ -23,4 +23,5 @@ legs-preserved g c =
           (λ row. c.legs.invariant.chain (s ++ row ∷ []) (omega (arith, long, shorter, stack_longer s row))) (rows_at T leg.table)
           ∙ ap (λ legs. chain_found T legs (found T c.args.end.stage) s) (sym (back_longer all now new leg front is));
       served = λ h. c.in_ok-planned.ensures.served (c.legs.invariant.served h);
+      kept = λ all h. c.in_ok-planned.ensures.kept all (c.legs.invariant.kept all h);
     }
