@@ -1,5 +1,5 @@
 -- What the stages of a select find is what the select means.
-use Rattle.std.proofs.Common.{◌≡◌, ℕ, suc, zero, ◌+◌, ◌-◌, ◌<◌, ◌≤◌, ◌^◌, cond, ◌&&◌, Bool, true, false, List, [], ◌∷◌, ◌++◌, map, length, get_or, refl, sym, ap, subst, ◌∙◌, arith, append_assoc}
+use Rattle.std.proofs.Common.{◌≡◌, ℕ, suc, ◌+◌, ◌-◌, ◌<◌, ◌≤◌, ◌^◌, cond, ◌&&◌, Bool, true, false, List, [], ◌∷◌, ◌++◌, map, length, get_or, refl, sym, ap, subst, ◌∙◌, arith}
 use Rattle.std.specs.Prelude.{filter, flat_map, is_some}
 use Rattle.std.specs.List.{list_all, AllByRecursion}
 use Rattle.std.proofs.lemmas.Bool.{and_parts}
@@ -16,11 +16,11 @@ use Rattle.pgq_base.specs.declared.value.Class.TheVariants.{Truth as TruthClass}
 use Rattle.graph_ast.specs.declared.catalog.Catalog.{Catalog}
 use Rattle.sql_algebra.specs.declared.tree.FromItem.{FromItem}
 use Rattle.sql_algebra.specs.declared.tree.ColumnLeaf.{ColumnLeaf}
-use Rattle.sql_algebra.specs.declared.tree.Select.{Select, Select-F}
+use Rattle.sql_algebra.specs.declared.tree.Select.{Select}
 use Rattle.sql_algebra.specs.declared.tree.SelectColumn.{SelectColumn}
 use Rattle.sql_algebra.specs.Catalogs.{table_named}
 use Rattle.sql_algebra.specs.declared.tree.Conjunct.{Conjunct, Conjunct-F, out-Conjunct, roll-Conjunct, roll-out-Conjunct, fold-roll-Conjunct}
-use Rattle.sql_algebra.specs.Tuples.{Bound, Tuple, tuples, tuples_under, leaf_value, holds, is_true, all_members}
+use Rattle.sql_algebra.specs.Tuples.{Bound, Tuple, leaf_value, holds, is_true, all_members}
 use Rattle.sql_algebra.specs.Meaning as m
 use Rattle.sql_algebra.specs.Meaning.{has_none, select_holds, select_rows, conjunct_holds}
 use Rattle.sql_algebra.specs.Soundness as s
@@ -29,16 +29,16 @@ use Rattle.sql_algebra.proofs.Folds.{conjunct_is_sound, select_sound}
 use Rattle.row_eval.specs.declared.frame.Slot.{Slot}
 use Rattle.row_eval.specs.declared.frame.Condition.{Condition}
 use Rattle.row_eval.specs.declared.legs.Leg.{Leg}
-use Rattle.row_eval.specs.Slots.{Stack, is_kept, slot_value}
+use Rattle.row_eval.specs.Slots.{Stack, is_kept}
 use Rattle.row_eval.specs.Stages.{all_kept}
 use Rattle.row_eval.specs.Joins.{chain_found}
 use Rattle.row_eval.specs.Levels.{level_in}
 use Rattle.row_eval.specs.Scopes.{Placed, own_places, reach_under, AreBelow, tuple_of, leaf_expr_of}
 use Rattle.row_eval.specs.Sorted.{each_passes, all_pass, AreDecidedAt, IsSorted}
-use Rattle.row_eval.specs.Typed.{MeetsTypes, IsTyped, IsTypedRow}
+use Rattle.row_eval.specs.Typed.{MeetsTypes, IsTyped}
 use Rattle.row_eval.specs.Plans.{items_in, plain_at, conditions_in, is_absent_at, all_absent, kept_by}
 use Rattle.row_eval.proofs.ChainLemmas.{condition_holds, levels_of, chain_means}
-use Rattle.row_eval.proofs.ChainReach.{aliases, Differ, members_sound, list_implies, both_true}
+use Rattle.row_eval.proofs.ChainReach.{aliases, Differ, members_sound, both_true}
 use Rattle.row_eval.proofs.LevelLemmas.{decided}
 use Rattle.row_eval.proofs.ScopeLemmas.{resolved_value}
 use Rattle.row_eval.proofs.Staged.{Level, Decided, kept, all_tests, choices}
@@ -47,7 +47,7 @@ use Rattle.row_eval.proofs.TypedLemmas.{items_of, typed_leaf, typed_under}
 
 -- ---- lists
 
-all_map : {X Y : Type 0} (P : Y → Type 0) (f : X → Y) (xs : List X) → AllByRecursion P (map f xs) → AllByRecursion (λ x. P (f x)) xs
+pub all_map : {X Y : Type 0} (P : Y → Type 0) (f : X → Y) (xs : List X) → AllByRecursion P (map f xs) → AllByRecursion (λ x. P (f x)) xs
 all_map P f [] h = tt
 all_map P f (x ∷ xs) h = (h.0, all_map P f xs h.1)
 

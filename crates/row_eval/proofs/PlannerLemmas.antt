@@ -1,11 +1,11 @@
 -- The stages of a select, step by step.
-use Rattle.std.proofs.Common.{◌≡◌, ℕ, suc, zero, ◌+◌, ◌-◌, ◌<◌, ◌≤◌, ◌^◌, cond, ◌&&◌, Bool, true, false, List, [], ◌∷◌, ◌++◌, map, take, drop, length, get_or, refl, sym, ap, subst, ◌∙◌, arith, append_assoc}
-use Rattle.std.specs.Prelude.{flat_map, is_some}
+use Rattle.std.proofs.Common.{◌≡◌, ℕ, suc, zero, ◌+◌, ◌-◌, ◌<◌, ◌≤◌, ◌^◌, cond, ◌&&◌, Bool, true, false, List, [], ◌∷◌, ◌++◌, map, take, length, get_or, refl, sym, ap, subst, ◌∙◌, arith}
+use Rattle.std.specs.Prelude.{is_some}
 use Rattle.std.specs.List.{list_all, AllByRecursion}
 use Rattle.std.proofs.lemmas.Bool.{and_parts}
-use Rattle.std.proofs.lemmas.List.{append-nil, map-append, length-append, take_more}
+use Rattle.std.proofs.lemmas.List.{take_more}
 use Rattle.std.proofs.lemmas.List.Folds.{list_all-append}
-use Rattle.pgq_base.specs.Instances.{RowValues, TableRows, InstanceRows, rows_at}
+use Rattle.pgq_base.specs.Instances.{InstanceRows, rows_at}
 use Rattle.graph_ast.specs.declared.catalog.Catalog.{Catalog}
 use Rattle.expr_tree.specs.declared.tree.Expr.{Expr}
 use Rattle.sql_algebra.specs.declared.tree.ColumnLeaf.{ColumnLeaf}
@@ -20,7 +20,6 @@ use Rattle.sql_algebra.specs.Meaning.{has_none, select_rows}
 use Rattle.sql_algebra.specs.Soundness.{select_is_sound}
 use Rattle.sql_algebra.proofs.Folds.{conjunct_is_sound, select_means, not_exists_sound}
 use Rattle.row_eval.specs.declared.access.Access.{Access}
-use Rattle.row_eval.specs.declared.frame.Condition.{Condition}
 use Rattle.row_eval.specs.declared.index.Index.{Index}
 use Rattle.row_eval.specs.declared.legs.Leg.{Leg}
 use Rattle.row_eval.specs.declared.scope.Reached.{Reached}
@@ -30,14 +29,14 @@ use Rattle.row_eval.specs.declared.stage.Stage.TheVariants as v
 use Rattle.row_eval.specs.Slots.{Stack}
 use Rattle.row_eval.specs.Stages.{all_kept, found, accesses}
 use Rattle.row_eval.specs.Joins.{chain_found}
-use Rattle.row_eval.specs.Served.{AllServed, IsServed}
+use Rattle.row_eval.specs.Served.{AllServed}
 use Rattle.row_eval.specs.Scopes.{Placed, placed, own_places, reach_under, AreBelow, tuple_of}
 use Rattle.row_eval.specs.Sorted.{IsSorted, SortsAll, table_place_of, leg_tables}
 use Rattle.row_eval.specs.Typed.{MeetsTypes, IsTyped}
 use Rattle.row_eval.specs.Plans.{items_in, conditions_in, is_absent_at, all_absent, kept_by, IsEndOf, IsPlanOf}
 use Rattle.row_eval.proofs.PlanLemmas.{sound_parts, reach_items, reach_long, select_found}
 use Rattle.row_eval.proofs.SortLemmas.{known_place}
-use Rattle.row_eval.proofs.StageLemmas.{found-Keep, found-Absent, found-Done, accesses-Absent, accesses-Keep}
+use Rattle.row_eval.proofs.StageLemmas.{found-Keep, found-Absent, found-Done, accesses-Absent}
 use Rattle.row_eval.proofs.TupleLemmas.{tables_of, map_map}
 
 -- ---- the tables of the legs

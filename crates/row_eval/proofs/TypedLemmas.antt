@@ -1,13 +1,13 @@
 -- The leaves of a tuple of rows that meet the types of a catalog have values of their classes.
-use Rattle.std.proofs.Common.{◌≡◌, ℕ, suc, zero, ◌+◌, ◌<◌, cond, ◌&&◌, Bool, true, false, List, [], ◌∷◌, ◌++◌, map, length, get_or, refl, sym, ap, subst, ◌∙◌, Option, Some, None, arith, inl, inr}
-use Rattle.std.specs.Prelude.{find, bytes_eq, is_some, flat_map}
+use Rattle.std.proofs.Common.{◌≡◌, ℕ, suc, ◌<◌, cond, Bool, true, false, List, [], ◌∷◌, ◌++◌, map, length, get_or, refl, sym, ap, subst, ◌∙◌, Option, Some, None, arith, inl, inr}
+use Rattle.std.specs.Prelude.{find, bytes_eq, flat_map}
 use Rattle.std.specs.List.{AllByRecursion}
 use Rattle.multisets.specs.Bags.{IsIn}
 use Rattle.pgq_base.specs.declared.value.Class.{Class}
 use Rattle.pgq_base.specs.declared.value.Class.TheVariants as class
 use Rattle.pgq_base.specs.declared.value.Value.{Value}
 use Rattle.pgq_base.specs.declared.value.Value.TheVariants as value
-use Rattle.pgq_base.specs.Instances.{RowValues, TableRows, InstanceRows, value_at, rows_at}
+use Rattle.pgq_base.specs.Instances.{RowValues, TableRows, InstanceRows, value_at}
 use Rattle.pgq_base.specs.Tables.{place_of}
 use Rattle.pgq_base.specs.Values.{IsOf}
 use Rattle.expr_tree.specs.Classes.{same_class}
@@ -17,7 +17,7 @@ use Rattle.graph_ast.specs.declared.catalog.Column.{Column}
 use Rattle.graph_ast.specs.declared.catalog.ColumnType.{ColumnType}
 use Rattle.graph_ast.specs.declared.catalog.ColumnType.TheVariants as type
 use Rattle.graph_ast.specs.Types.{class_of_type}
-use Rattle.graph_ast.specs.Fits.{IsWithin, IsValueOf, IsRowOf}
+use Rattle.graph_ast.specs.Fits.{IsWithin, IsRowOf}
 use Rattle.sql_algebra.specs.declared.tree.FromItem.{FromItem}
 use Rattle.sql_algebra.specs.declared.tree.ColumnLeaf.{ColumnLeaf}
 use Rattle.sql_algebra.specs.Catalogs.{table_named, column_named, column_names, column_place, rows_of}

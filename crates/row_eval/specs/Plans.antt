@@ -1,5 +1,5 @@
 -- What the stages of a select find: the tuples of the select.
-use Rattle.std.specs.Prelude.{◌≡◌, ℕ, Bool, true, false, cond, List, [], ◌∷◌, ◌++◌, map, filter, flat_map, length}
+use Rattle.std.specs.Prelude.{◌≡◌, Bool, true, cond, List, [], ◌∷◌, ◌++◌, map, filter, flat_map, length}
 use Rattle.std.specs.List.{list_all}
 use Rattle.pgq_base.specs.Instances.{InstanceRows}
 use Rattle.expr_tree.specs.declared.tree.Expr.{Expr}

@@ -1,5 +1,5 @@
 -- Names by place: which row of a stack, and which column of it, a leaf means.
-use Rattle.std.specs.Prelude.{ℕ, suc, ◌<◌, Bool, cond, List, [], ◌∷◌, ◌++◌, map, length, slice_index_or, Option, None, Some, bytes_eq}
+use Rattle.std.specs.Prelude.{ℕ, suc, ◌<◌, cond, List, [], ◌∷◌, ◌++◌, map, length, slice_index_or, Option, None, Some, bytes_eq}
 use Rattle.std.specs.List.{AllByRecursion}
 use Rattle.graph_ast.specs.declared.catalog.Catalog.{Catalog}
 use Rattle.expr_tree.specs.declared.tree.Expr.{Expr}
@@ -7,7 +7,7 @@ use Rattle.expr_tree.specs.declared.tree.Expr.TheVariants as e
 use Rattle.sql_algebra.specs.declared.tree.FromItem.{FromItem}
 use Rattle.sql_algebra.specs.declared.tree.ColumnLeaf.{ColumnLeaf}
 use Rattle.sql_algebra.specs.Catalogs.{column_place}
-use Rattle.sql_algebra.specs.Tuples.{Tuple, Bound}
+use Rattle.sql_algebra.specs.Tuples.{Tuple}
 use Rattle.row_eval.specs.declared.frame.Slot.{Slot}
 use Rattle.row_eval.specs.declared.scope.Reached.{Reached}
 use Rattle.row_eval.specs.Slots.{Stack}

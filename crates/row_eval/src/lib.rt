@@ -4,6 +4,7 @@
 mod access;
 mod chains;
 mod collect;
+mod evaluator;
 mod frame;
 mod index;
 mod joins;
@@ -18,5 +19,6 @@ mod stage;
 mod steps;
 mod ties;
 
+pub use evaluator::{EvalStop, MOST_ROWS, evaluate};
 pub use source::RowSource;
 pub use steps::Steps;

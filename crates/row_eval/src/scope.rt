@@ -8,7 +8,7 @@ ghost use Rattle.sql_algebra.specs.Soundness.{leaf_class};
 ghost use Rattle.sql_algebra.specs.Catalogs.{column_place};
 ghost use Rattle.row_eval.specs.Scopes.{placed, slot_in_reach, leaf_expr_of};
 
-use crate::frame::{Condition, Slot};
+use crate::frame::{Condition, Output, Slot};
 use expr_tree::{Expr, map_leaves};
 use graph_ast::{Catalog, Column, Table};
 use pgq_base::{Name, NoMemory};
@@ -121,4 +121,18 @@ pub fn resolve_condition(
 {
     let expr = resolve(alloc, catalog, reach, expr)?;
     Ok(Condition { expr })
+}
+
+/// The expression of a column with a slot in place of each leaf.
+pub fn resolve_output(
+    alloc: Global,
+    catalog: &Catalog,
+    reach: &[Reached<'_>],
+    expr: &Expr<ColumnLeaf>,
+) -> Result<Output, NoMemory>
+    requires { IsWellClassed leaf_class expr.now }
+    ensures { IfOk result (λ o. o.expr ≡ mapped (leaf_expr_of catalog.now (placed reach.now)) expr.now) }
+{
+    let expr = resolve(alloc, catalog, reach, expr)?;
+    Ok(Output { expr })
 }

@@ -1,4 +1,4 @@
-use Rattle.std.proofs.Common.{◌≡◌, ◌++◌, ◌∷◌, [], sym, subst}
+use Rattle.std.proofs.Common.{sym, subst}
 use Rattle.row_eval.specs.Served.{AllServed}
 use Rattle.row_eval.proofs.JoinLemmas.{still_served}
 use Rattle.row_eval.proofs.joins.join_one.Goals as goal

@@ -6,7 +6,6 @@ use Rattle.sql_algebra.specs.declared.tree.Conjunct.{Conjunct}
 use Rattle.sql_algebra.specs.declared.tree.FromItem.{FromItem}
 use Rattle.sql_algebra.specs.Reaches.{conjunct_is_sound}
 use Rattle.sql_algebra.specs.Soundness.{select_is_sound}
-use Rattle.row_eval.specs.declared.access.Access.{Access}
 use Rattle.row_eval.specs.declared.stage.Stage.{Stage}
 use Rattle.row_eval.specs.declared.index.Index.{Index}
 use Rattle.std.specs.declared.vec.Vec.{Vec}

@@ -4,7 +4,6 @@ use Rattle.row_eval.specs.Scopes.{placed}
 use Rattle.row_eval.specs.Served.{AllServed}
 use Rattle.row_eval.specs.Stages.{accesses}
 use Rattle.row_eval.specs.Plans.{IsEndOf}
-use Rattle.row_eval.proofs.PlannerLemmas.{joins_plan}
 use Rattle.row_eval.proofs.planner.+plan.Given as goal
 
 abbrev pub invariant-plan_absent-loop-conjunct : goal.invariant-plan_absent-loop-conjunct

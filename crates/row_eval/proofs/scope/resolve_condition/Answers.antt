@@ -2,7 +2,6 @@ use Rattle.std.proofs.Common.{◌∙◌, sym, ap, subst}
 use Rattle.expr_tree.specs.Classes.{IsWellClassed, class_in}
 use Rattle.row_eval.specs.Slots.{slot_class}
 use Rattle.row_eval.specs.Scopes.{placed}
-use Rattle.row_eval.proofs.PlanLemmas.{select_found}
 use Rattle.row_eval.proofs.ClassLemmas.{resolved_rules, resolved_class}
 use Rattle.row_eval.proofs.scope.resolve_condition.Goals as goal
 

@@ -1,4 +1,4 @@
-use Rattle.std.proofs.Common.{◌≡◌, ◌+◌, ◌-◌, ◌<◌, ◌++◌, ◌∷◌, [], length, get_or, refl, arith}
+use Rattle.std.proofs.Common.{◌≡◌, ◌+◌, ◌-◌, ◌<◌, length, refl, arith}
 use Rattle.row_eval.specs.declared.legs.Leg.{Leg}
 use Rattle.row_eval.specs.Levels.{level_in}
 use Rattle.row_eval.proofs.SortLemmas.{leg_more, leg_sorted, same_tables}

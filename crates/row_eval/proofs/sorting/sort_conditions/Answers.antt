@@ -1,4 +1,4 @@
-use Rattle.std.proofs.Common.{◌≡◌, ◌++◌, [], map, List, sym, ap, subst, ◌∙◌}
+use Rattle.std.proofs.Common.{◌++◌, map, List, sym, ap, subst, ◌∙◌}
 use Rattle.std.specs.Prelude.{flat_map}
 use Rattle.expr_tree.specs.declared.tree.Expr.{Expr}
 use Rattle.sql_algebra.specs.declared.tree.ColumnLeaf.{ColumnLeaf}
@@ -7,7 +7,7 @@ use Rattle.sql_algebra.specs.declared.tree.FromItem.{FromItem}
 use Rattle.sql_algebra.specs.Tuples.{all_members}
 use Rattle.row_eval.specs.declared.sorting.Sorted.{Sorted}
 use Rattle.row_eval.specs.Scopes.{placed}
-use Rattle.row_eval.specs.Sorted.{IsSorted, SortsAll, bare_leg, table_place_of}
+use Rattle.row_eval.specs.Sorted.{IsSorted, SortsAll, table_place_of}
 use Rattle.row_eval.specs.Plans.{plain_at}
 use Rattle.row_eval.proofs.SortLemmas.{bare_sorted, all_sorted, sorted_tables, if_ok}
 use Rattle.row_eval.proofs.sorting.sort_conditions.Goals as goal

@@ -1,9 +1,7 @@
-use Rattle.std.proofs.Common.{◌<◌, ◌∷◌, [], take, length, sym, subst, arith}
+use Rattle.std.proofs.Common.{◌<◌, take, length, sym, subst, arith}
 use Rattle.std.specs.Prelude.{flat_map}
-use Rattle.sql_algebra.specs.declared.tree.FromItem.{FromItem}
 use Rattle.sql_algebra.specs.declared.tree.Conjunct.{Conjunct, out-Conjunct}
 use Rattle.sql_algebra.specs.Soundness.{condition_is_sound}
-use Rattle.sql_algebra.specs.Tuples.{members_of}
 use Rattle.row_eval.specs.Scopes.{placed}
 use Rattle.row_eval.specs.Plans.{items_in, plain_at}
 use Rattle.row_eval.specs.Sorted.{Adds}

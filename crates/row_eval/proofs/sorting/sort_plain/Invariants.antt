@@ -1,7 +1,6 @@
 use Rattle.std.proofs.Common.{take}
 use Rattle.std.specs.Prelude.{flat_map}
 use Rattle.sql_algebra.specs.declared.tree.Conjunct.{out-Conjunct}
-use Rattle.sql_algebra.specs.Tuples.{all_members}
 use Rattle.row_eval.specs.Plans.{plain_at}
 use Rattle.row_eval.specs.Scopes.{placed}
 use Rattle.row_eval.specs.Sorted.{Adds}

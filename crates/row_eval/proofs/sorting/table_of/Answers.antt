@@ -1,4 +1,4 @@
-use Rattle.std.proofs.Common.{◌≡◌, ◌<◌, ◌∙◌, List, ap, map, length, arith}
+use Rattle.std.proofs.Common.{◌≡◌, ◌∙◌, List, ap, map, arith}
 use Rattle.graph_ast.specs.declared.catalog.Table.{Table}
 use Rattle.pgq_base.specs.Tables.{place_of}
 use Rattle.row_eval.specs.Sorted.{table_place_of}
