@@ -26,7 +26,7 @@ either_false : (a b : Bool) → (a || b) ≡ false → (a ≡ false) × (b ≡ f
 either_false true b h = absurd cc
 either_false false b h = (refl, h)
 
-not_true : (b : Bool) → not b ≡ true → b ≡ false
+pub not_true : (b : Bool) → not b ≡ true → b ≡ false
 not_true true h = absurd cc
 not_true false h = refl
 
@@ -46,7 +46,7 @@ module _ (catalog : Catalog) (leaf : ColumnLeaf) where
           absurd (no_item (find (sought leaf) reach) (reached leaf.alias reach ∙ ap (λ n. is_in n (aliases reach)) (sym same) ∙ none) sound)
 
   -- the items before a reach, each of another alias
-  abbrev IsApart : Reach → List FromItem → Bool
+  abbrev pub IsApart : Reach → List FromItem → Bool
   IsApart reach xs = list_all (λ (x : FromItem). not (is_in x.alias (aliases reach))) xs
 
   sought_behind : (xs : List FromItem) (reach wider : Reach) → leaf_is_sound catalog reach leaf ≡ true → IsApart reach xs ≡ true
@@ -97,7 +97,7 @@ module _ (outer : List FromItem) where
       let two = and_parts (not (is_in x.alias (aliases xs))) (differ_from (aliases outer) (aliases xs)) one.1 in
       (not_true (is_in x.alias (aliases outer)) one.0, not_true (is_in x.alias (aliases xs)) two.0, two.1)
 
-  later_apart : (catalog : Catalog) (leaf : ColumnLeaf) (xs later : List FromItem) → Differ outer (xs ++ later) → IsApart catalog leaf outer later ≡ true
+  pub later_apart : (catalog : Catalog) (leaf : ColumnLeaf) (xs later : List FromItem) → Differ outer (xs ++ later) → IsApart catalog leaf outer later ≡ true
   later_apart catalog leaf [] [] h = refl
   later_apart catalog leaf [] (x ∷ later) h =
       let three = first_apart x later h in

@@ -1,7 +1,10 @@
 -- A join with its tests.
+use Rattle.std.proofs.Common.{map, sum, ◌+◌}
+use Rattle.row_eval.specs.Access.{rows_given}
+use Rattle.row_eval.specs.Stages.{visits}
 use Rattle.std.proofs.Common.{◌≡◌, ℕ, suc, zero, ◌<◌, cond, ◌&&◌, Bool, true, false, List, [], ◌∷◌, ◌++◌, length, refl, sym, ap, subst, ◌∙◌, Some}
 use Rattle.std.specs.Prelude.{filter, flat_map, slice_get}
-use Rattle.pgq_base.specs.Instances.{RowValues, InstanceRows, rows_at}
+use Rattle.pgq_base.specs.Instances.{RowValues, TableRows, InstanceRows, rows_at}
 use Rattle.row_eval.specs.declared.frame.Condition.{Condition}
 use Rattle.row_eval.specs.declared.access.Access.{Access}
 use Rattle.row_eval.specs.declared.index.Index.{Index}
@@ -12,8 +15,8 @@ use Rattle.row_eval.specs.Access.{matches_row}
 use Rattle.row_eval.specs.Served.{AllServed, IsIndexOf}
 use Rattle.row_eval.specs.Stages.{all_kept, found, accesses}
 use Rattle.row_eval.specs.Ties.{are_tied, slots_of, tie_holds, ties_hold}
-use Rattle.row_eval.specs.Joins.{passed_on}
-use Rattle.row_eval.proofs.StageLemmas.{found-Keep, found-Join, accesses-Keep, accesses-Join}
+use Rattle.row_eval.specs.Joins.{passed_on, tied_rows, visits_passed}
+use Rattle.row_eval.proofs.StageLemmas.{found-Keep, found-Join, visits-Keep, visits-Join, accesses-Keep, accesses-Join}
 
 no_more : (tied kept : Bool) → cond tied kept true ≡ false → kept ≡ false
 no_more true kept h = h
@@ -81,3 +84,30 @@ joined_served instance e kept rest access tests table indexes more new is then a
       },
       still_served instance indexes new (accesses rest) others,
     ))
+
+-- ---- the reads of a join
+
+filter_alike : {X : Type 0} (p q : X → Bool) → ((x : X) → p x ≡ q x) → (xs : List X) → filter p xs ≡ filter q xs
+filter_alike p q same [] = refl
+filter_alike p q same (x ∷ xs) = ap (λ b. cond b (x ∷ filter p xs) (filter p xs)) (same x) ∙ ap (λ l. cond (q x) (x ∷ l) l) (filter_alike p q same xs)
+
+map_alike : {X Y : Type 0} (f g : X → Y) → ((x : X) → f x ≡ g x) → (xs : List X) → map f xs ≡ map g xs
+map_alike f g same [] = refl
+map_alike f g same (x ∷ xs) = ap (λ y. y ∷ map f xs) (same x) ∙ ap (λ l. g x ∷ l) (map_alike f g same xs)
+
+pub joined_visits : (instance : InstanceRows) (e kept rest : Stage) (access : Access) (tests : List Condition) (table place : ℕ) (s : Stack)
+    → e ≡ v.Join access kept → kept ≡ v.Keep tests rest → access.table ≡ table → length s ≡ place
+    → ((row : RowValues) → matches_row access s row ≡ ties_hold place s row tests)
+    → visits instance e s ≡ visits_passed (visits instance rest) tests s (tied_rows tests s (rows_at instance table))
+joined_visits instance e kept rest access tests table place s is then at long matches =
+    visits-Join instance s e access kept is
+    ∙ ap sum (map_alike (λ row. 1 + visits instance kept (s ++ row ∷ [])) (λ row. 1 + cond (all_kept tests (s ++ row ∷ [])) (visits instance rest (s ++ row ∷ [])) 0)
+    (λ row. ap (λ n. 1 + n) (visits-Keep instance (s ++ row ∷ []) kept tests rest then)) (rows_given instance access s))
+    ∙ ap (λ rows. visits_passed (visits instance rest) tests s rows)
+    (filter_alike (matches_row access s) (λ row. ties_hold (length s) s row tests) (λ row. matches row ∙ ap (λ n. ties_hold n s row tests) (sym long)) (rows_at instance access.table)
+    ∙ ap (λ t. tied_rows tests s (rows_at instance t)) at)
+
+pub visits_alike : (f g : Stack → ℕ) (tests : List Condition) (s : Stack) → ((row : RowValues) → f (s ++ row ∷ []) ≡ g (s ++ row ∷ [])) → (rows : TableRows) → visits_passed f tests s rows ≡ visits_passed g tests s rows
+visits_alike f g tests s same rows =
+    ap sum (map_alike (λ row. 1 + cond (all_kept tests (s ++ row ∷ [])) (f (s ++ row ∷ [])) 0) (λ row. 1 + cond (all_kept tests (s ++ row ∷ [])) (g (s ++ row ∷ [])) 0)
+    (λ row. ap (λ n. 1 + cond (all_kept tests (s ++ row ∷ [])) n 0) (same row)) rows)

@@ -97,7 +97,7 @@ under_first false p xs = sym (none_kept p xs)
 
 -- ---- conditions that are sorted are decided
 
-kept_decided : (s more : Stack) (tests : List Condition) → length s < 2 ^ 64 - 1 → AllByRecursion (λ (c : Condition). level_in c.expr ≤ length s) tests → all_kept tests (s ++ more) ≡ all_kept tests s
+pub kept_decided : (s more : Stack) (tests : List Condition) → length s < 2 ^ 64 - 1 → AllByRecursion (λ (c : Condition). level_in c.expr ≤ length s) tests → all_kept tests (s ++ more) ≡ all_kept tests s
 kept_decided s more [] small h = refl
 kept_decided s more (c ∷ cs) small h =
     ap (λ b. b && all_kept cs (s ++ more)) (decided s more c.expr small h.0) ∙ ap (λ b. is_kept s c.expr && b) (kept_decided s more cs small h.1)
@@ -206,13 +206,13 @@ typed_leaves catalog reach t typed e sound =
     (λ l h. typed_leaf catalog (tuple_of reach t) l typed (ap (λ items. leaf_is_sound catalog items l) (tuple_items reach t) ∙ h)) (leaves_in e)
     (and_parts (list_all (leaf_is_sound catalog (items_in reach)) (leaves_in e)) (well_classed leaf_class e) sound).0
 
-means : (catalog : Catalog) (reach : List Placed) (t : Stack) → IsTyped catalog (tuple_of reach t) → (e : Expr ColumnLeaf) → condition_is_sound catalog (items_in reach) e ≡ true
+pub means : (catalog : Catalog) (reach : List Placed) (t : Stack) → IsTyped catalog (tuple_of reach t) → (e : Expr ColumnLeaf) → condition_is_sound catalog (items_in reach) e ≡ true
     → is_kept t (mapped (leaf_expr_of catalog reach) e) ≡ holds catalog (tuple_of reach t) e
 means catalog reach t typed e sound =
     ap (λ v. is_true (truth_of_value v))
     (resolved_value catalog t reach e (typed_leaves catalog reach t typed e (and_parts (value_is_sound catalog (items_in reach) e) (same_class TruthClass (class_in leaf_class e)) sound).0))
 
-all_mean : (catalog : Catalog) (reach : List Placed) (t : Stack) → IsTyped catalog (tuple_of reach t) → (es : List (Expr ColumnLeaf)) → list_all (condition_is_sound catalog (items_in reach)) es ≡ true
+pub all_mean : (catalog : Catalog) (reach : List Placed) (t : Stack) → IsTyped catalog (tuple_of reach t) → (es : List (Expr ColumnLeaf)) → list_all (condition_is_sound catalog (items_in reach)) es ≡ true
     → list_all (λ e. is_kept t (mapped (leaf_expr_of catalog reach) e)) es ≡ list_all (holds catalog (tuple_of reach t)) es
 all_mean catalog reach t typed [] sound = refl
 all_mean catalog reach t typed (e ∷ es) sound =

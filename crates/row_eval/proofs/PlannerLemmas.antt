@@ -79,14 +79,14 @@ legs_within catalog instance meets select outer sound legs e =
 
 -- ---- the reach
 
-placed_long : (reach : List Reached) → length (placed reach) ≡ length reach
+pub placed_long : (reach : List Reached) → length (placed reach) ≡ length reach
 placed_long [] = refl
 placed_long (r ∷ reach) = ap suc (placed_long reach)
 
 pub reach_size : (reach : List Reached) (items : List FromItem) (outer : List Reached) → placed reach ≡ reach_under items (placed outer) → length reach ≡ length items + length outer
 reach_size reach items outer e = sym (placed_long reach) ∙ ap length e ∙ reach_long items (placed outer) ∙ ap (λ n. length items + n) (placed_long outer)
 
-own_below : (place n : ℕ) (items : List FromItem) → place + length items ≤ n → AreBelow n (own_places place items)
+pub own_below : (place n : ℕ) (items : List FromItem) → place + length items ≤ n → AreBelow n (own_places place items)
 own_below place n [] h = tt
 own_below place n (item ∷ items) h = (omega (arith, h), own_below (suc place) n items (omega (arith, h)))
 
@@ -98,7 +98,7 @@ both_below : (n : ℕ) (xs ys : List Placed) → AreBelow n xs → AreBelow n ys
 both_below n [] ys h k = k
 both_below n (x ∷ xs) ys h k = (h.0, both_below n xs ys h.1 k)
 
-under_below : (items : List FromItem) (outer : List Placed) → AreBelow (length outer) outer → AreBelow (length outer + length items) (reach_under items outer)
+pub under_below : (items : List FromItem) (outer : List Placed) → AreBelow (length outer) outer → AreBelow (length outer + length items) (reach_under items outer)
 under_below items outer h =
     both_below (length outer + length items) (own_places (length outer) items) outer (own_below (length outer) (length outer + length items) items (omega arith))
     (higher (length outer) (length outer + length items) (omega arith) outer h)

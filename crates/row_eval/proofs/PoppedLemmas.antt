@@ -1,10 +1,13 @@
 -- A list that is used up from its end.
+use Rattle.std.proofs.Common.{◌+◌, arith}
 use Rattle.std.proofs.Common.{◌≡◌, ℕ, suc, zero, cond, List, [], ◌∷◌, ◌++◌, take, drop, length, refl, sym, ap, ◌∙◌, append_assoc}
-use Rattle.pgq_base.specs.Instances.{RowValues, TableRows}
+use Rattle.row_eval.proofs.Totals.{sum_total, total_append}
+use Rattle.pgq_base.specs.Instances.{RowValues, TableRows, InstanceRows, rows_at}
+use Rattle.row_eval.specs.declared.legs.Leg.{Leg}
 use Rattle.row_eval.specs.declared.frame.Condition.{Condition}
 use Rattle.row_eval.specs.Slots.{Stack}
 use Rattle.row_eval.specs.Stages.{all_kept}
-use Rattle.row_eval.specs.Joins.{passed_on}
+use Rattle.row_eval.specs.Joins.{passed_on, rows_of_legs}
 
 module _ {X : Type 0} where
   parts : (n : ℕ) (xs : List X) → take n xs ++ drop n xs ≡ xs
@@ -46,3 +49,13 @@ passed_same f g tests s same [] = refl
 passed_same f g tests s same (row ∷ rows) =
     ap (λ x. cond (all_kept tests (s ++ row ∷ [])) x [] ++ passed_on f tests s rows) (same row)
     ∙ ap (λ x. cond (all_kept tests (s ++ row ∷ [])) (g (s ++ row ∷ [])) [] ++ x) (passed_same f g tests s same rows)
+
+-- the rows of a chain without its last leg
+pub rows_popped : (instance : InstanceRows) (now new : List Leg) (leg : Leg) → now ≡ new ++ leg ∷ [] → rows_of_legs instance now ≡ rows_of_legs instance new + length (rows_at instance leg.table)
+rows_popped instance now new leg is =
+    let f = λ (leg : Leg). length (rows_at instance leg.table) in
+    let whole = sum_total f (new ++ leg ∷ []) in
+    let split = total_append f new (leg ∷ []) in
+    let front = sum_total f new in
+    let same = ap (rows_of_legs instance) is in
+    omega (arith, whole, split, front, same)

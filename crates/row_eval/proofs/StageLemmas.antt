@@ -36,6 +36,10 @@ module _ (instance : InstanceRows) (s : Stack) where
   pub visits-Absent : (e inner rest : Stage) → e ≡ v.Absent inner rest → visits instance e s ≡ visits instance inner s + visits instance rest s
   visits-Absent e inner rest is = ap (λ f. f s) (at_layer (visits_step instance) (Stage-F.Absent inner rest) e (is ∙ sym (v.rolls-Absent inner rest)))
 
+module _ (instance : InstanceRows) (s : Stack) where
+  pub visits-Done : (e : Stage) → e ≡ v.Done → visits instance e s ≡ 0
+  visits-Done e is = ap (λ f. f s) (at_layer (visits_step instance) Stage-F.Done e (is ∙ sym v.rolls-Done))
+
 pub accesses-Keep : (e : Stage) (cs : List Condition) (rest : Stage) → e ≡ v.Keep cs rest → accesses e ≡ accesses rest
 accesses-Keep e cs rest is = at_layer accesses_step (Stage-F.Keep cs rest) e (is ∙ sym (v.rolls-Keep cs rest))
 

@@ -1,6 +1,8 @@
-ghost use Rattle.std.specs.Prelude.{◌≡◌, ◌<◌, ◌≤◌, IfOk, OnOk, IsErrOf, length, true, [], map};
+ghost use Rattle.std.specs.Prelude.{◌≡◌, ◌+◌, ◌<◌, ◌≤◌, IfOk, OnOk, IsErrOf, length, true, [], map};
 ghost use Rattle.std.specs.List.{list_all};
 ghost use Rattle.sql_algebra.specs.Meaning.{bag, select_rows};
+ghost use Rattle.sql_algebra.specs.RowReads.{read_bound, select_reads, tables_in};
+ghost use Rattle.row_eval.specs.Bounds.{rows_in};
 ghost use Rattle.sql_algebra.specs.Soundness.{IsSound, select_is_sound, value_is_sound};
 ghost use Rattle.row_eval.specs.declared.evaluator.EvalStop.TheVariants.{TooManyRows, NoMemory as OutOfMemory};
 ghost use Rattle.row_eval.specs.Scopes.{placed};
@@ -43,7 +45,7 @@ impl From<NoMemory> for EvalStop {
 pub const MOST_ROWS: usize = 1_000_000;
 
 /// The rows that a query means, in the order of its definition. `TooManyRows` comes exactly where there are
-/// more than a million.
+/// more than a million. Whatever is answered, no more rows are read than the bound says.
 pub fn evaluate<R: RowSource, L: Ledger>(
     alloc: Global,
     query: &SqlQuery,
@@ -55,6 +57,7 @@ pub fn evaluate<R: RowSource, L: Ledger>(
     requires meets { MeetsTypes catalog.now (R.tables rows.now) }
     ensures rows { IfOk result (λ r. row_values r.rows ≡ bag catalog.now query.now (R.tables rows.now)) }
     ensures few { IfOk result (λ r. length (bag catalog.now query.now (R.tables rows.now)) ≤ 1000000) }
+    ensures steps { steps.new ≤ steps.old + read_bound catalog.now query.now (R.tables rows.now) }
     ensures too_many { IsErrOf result TooManyRows → 1000000 < length (bag catalog.now query.now (R.tables rows.now)) }
 {
     let planner = Planner {
@@ -97,7 +100,8 @@ fn run_select<R: RowSource, L: Ledger>(
 ) -> Result<bool, NoMemory>
     requires sound { select_is_sound planner.now.catalog.now select.now [] ≡ true }
     requires meets { MeetsTypes planner.now.catalog.now (R.tables planner.now.rows.now) }
-    ensures { IfOk result (Answers 1000000 out.old out.new (select_rows planner.now.catalog.now (R.tables planner.now.rows.now) select.now [])) }
+    ensures steps { steps.new ≤ steps.old + (rows_in planner.now.catalog.now (R.tables planner.now.rows.now) (tables_in select.now) + select_reads planner.now.catalog.now (R.tables planner.now.rows.now) select.now []) }
+    ensures rows { IfOk result (Answers 1000000 out.old out.new (select_rows planner.now.catalog.now (R.tables planner.now.rows.now) select.now [])) }
 {
     let reach = reach_of(planner.alloc, select.from.as_slice(), &[])?;
     let columns = select.columns.as_slice();

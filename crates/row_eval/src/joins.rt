@@ -4,9 +4,9 @@ ghost use Rattle.row_eval.specs.declared.index.Index.{Index as Built};
 ghost use Rattle.pgq_base.specs.Instances.{rows_at};
 ghost use Rattle.row_eval.specs.Slots.{Stack};
 ghost use Rattle.row_eval.specs.Served.{AllServed};
-ghost use Rattle.row_eval.specs.Stages.{found, accesses};
+ghost use Rattle.row_eval.specs.Stages.{found, visits, accesses};
 ghost use Rattle.row_eval.specs.declared.stage.Stage.TheVariants.{Keep, Join};
-ghost use Rattle.row_eval.specs.Joins.{passed_on};
+ghost use Rattle.row_eval.specs.Joins.{passed_on, tied_rows, visits_passed};
 
 use crate::access::Access;
 use crate::frame::Condition;
@@ -47,6 +47,7 @@ pub fn join_table<'r, R: RowSource, L: Ledger>(
 ) -> Result<(Stage, Index<'r>), NoMemory>
     requires { table < length (R.tables rows.now) }
     ensures found { IfOk result (λ r. (s : Stack) → length s ≡ place → found (R.tables rows.now) r.0 s ≡ passed_on (found (R.tables rows.now) rest) tests s (rows_at (R.tables rows.now) table)) }
+    ensures visits { IfOk result (λ r. (s : Stack) → length s ≡ place → visits (R.tables rows.now) r.0 s ≡ visits_passed (visits (R.tables rows.now) rest) tests s (tied_rows tests s (rows_at (R.tables rows.now) table))) }
     ensures served { IfOk result (λ r. (indexes : Seq Built) → number ≡ length indexes → AllServed (R.tables rows.now) indexes (accesses rest) → AllServed (R.tables rows.now) (indexes ++ r.1 ∷ []) (accesses r.0)) }
     ensures steps { steps.new ≤ steps.old + length (rows_at (R.tables rows.now) table) }
 {
@@ -76,6 +77,7 @@ pub fn join_one<'r, R: RowSource, L: Ledger>(
 ) -> Result<Planned<'r>, NoMemory>
     requires { table < length (R.tables rows.now) }
     ensures found { IfOk result (λ p. (s : Stack) → length s ≡ place → found (R.tables rows.now) p.stage s ≡ passed_on (found (R.tables rows.now) planned.entry.stage) tests s (rows_at (R.tables rows.now) table)) }
+    ensures visits { IfOk result (λ p. (s : Stack) → length s ≡ place → visits (R.tables rows.now) p.stage s ≡ visits_passed (visits (R.tables rows.now) planned.entry.stage) tests s (tied_rows tests s (rows_at (R.tables rows.now) table))) }
     ensures served { IfOk result (λ p. AllServed (R.tables rows.now) planned.entry.indexes.items (accesses planned.entry.stage) → AllServed (R.tables rows.now) p.indexes.items (accesses p.stage)) }
     ensures kept { IfOk result (λ p. (all : Seq Reading) → AllServed (R.tables rows.now) planned.entry.indexes.items all → AllServed (R.tables rows.now) p.indexes.items all) }
     ensures steps { steps.new ≤ steps.old + length (rows_at (R.tables rows.now) table) }

@@ -1,4 +1,4 @@
-ghost use Rattle.std.specs.Prelude.{◌≡◌, ◌∷◌, [], IfOk, length, map, true, cond, List as Seq};
+ghost use Rattle.std.specs.Prelude.{◌≡◌, ◌+◌, ◌≤◌, ◌∷◌, [], IfOk, length, map, true, cond, List as Seq};
 ghost use Rattle.std.specs.List.{list_all};
 ghost use Rattle.sql_algebra.specs.Soundness.{select_is_sound};
 ghost use Rattle.sql_algebra.specs.Reaches.{conjunct_is_sound};
@@ -8,7 +8,9 @@ ghost use Rattle.row_eval.specs.Scopes.{placed, reach_under, AreBelow};
 ghost use Rattle.row_eval.specs.Served.{AllServed};
 ghost use Rattle.row_eval.specs.Stages.{accesses};
 ghost use Rattle.row_eval.specs.Typed.{MeetsTypes};
+ghost use Rattle.sql_algebra.specs.RowReads.{tables_in};
 ghost use Rattle.row_eval.specs.Plans.{items_in, IsEndOf, IsPlanOf};
+ghost use Rattle.row_eval.specs.Bounds.{IsEndWithin, IsWithin, rows_in, inner_tables, item_tables};
 
 use crate::chains::join_all;
 use crate::index::Index;
@@ -48,8 +50,11 @@ fn plan_joins<'r, R: RowSource, L: Ledger>(
     requires meets { MeetsTypes planner.now.catalog.now (R.tables planner.now.rows.now) }
     requires reach { placed reach.now ≡ reach_under select.now.from (placed outer.now) }
     requires end { IsEndOf planner.now.catalog.now (R.tables planner.now.rows.now) select.now.conjuncts (placed reach.now) end.stage }
+    requires within { IsEndWithin planner.now.catalog.now (R.tables planner.now.rows.now) select.now.conjuncts (placed reach.now) end.stage }
     requires served { AllServed (R.tables planner.now.rows.now) end.indexes.items (accesses end.stage) }
     ensures found { IfOk result (λ p. IsPlanOf planner.now.catalog.now (R.tables planner.now.rows.now) select.now (placed outer.now) p.stage) }
+    ensures within { IfOk result (λ p. IsWithin planner.now.catalog.now (R.tables planner.now.rows.now) select.now (placed outer.now) p.stage) }
+    ensures steps { steps.new ≤ steps.old + rows_in planner.now.catalog.now (R.tables planner.now.rows.now) (item_tables select.now.from) }
     ensures served { IfOk result (λ p. AllServed (R.tables planner.now.rows.now) p.indexes.items (accesses p.stage)) }
     ensures kept { IfOk result (λ p. (all : Seq Reading) → AllServed (R.tables planner.now.rows.now) end.entry.indexes.items all → AllServed (R.tables planner.now.rows.now) p.indexes.items all) }
 {
@@ -80,6 +85,8 @@ pub fn plan<'q, 'r, R: RowSource, L: Ledger>(
     requires below { AreBelow (length outer.now) (placed outer.now) }
     requires meets { MeetsTypes planner.now.catalog.now (R.tables planner.now.rows.now) }
     ensures found { IfOk result (λ p. IsPlanOf planner.now.catalog.now (R.tables planner.now.rows.now) select.now (placed outer.now) p.stage) }
+    ensures within { IfOk result (λ p. IsWithin planner.now.catalog.now (R.tables planner.now.rows.now) select.now (placed outer.now) p.stage) }
+    ensures steps { steps.new ≤ steps.old + rows_in planner.now.catalog.now (R.tables planner.now.rows.now) (tables_in select.now) }
     ensures served { IfOk result (λ p. AllServed (R.tables planner.now.rows.now) p.indexes.items (accesses p.stage)) }
     ensures kept { IfOk result (λ p. (all : Seq Reading) → AllServed (R.tables planner.now.rows.now) indexes.entry.items all → AllServed (R.tables planner.now.rows.now) p.indexes.items all) }
 {
@@ -102,6 +109,8 @@ fn plan_absent<'q, 'r, R: RowSource, L: Ledger>(
     requires below { AreBelow (length reach.now) (placed reach.now) }
     requires meets { MeetsTypes planner.now.catalog.now (R.tables planner.now.rows.now) }
     ensures end { IfOk result (λ p. IsEndOf planner.now.catalog.now (R.tables planner.now.rows.now) conjuncts.now (placed reach.now) p.stage) }
+    ensures within { IfOk result (λ p. IsEndWithin planner.now.catalog.now (R.tables planner.now.rows.now) conjuncts.now (placed reach.now) p.stage) }
+    ensures steps { steps.new ≤ steps.old + rows_in planner.now.catalog.now (R.tables planner.now.rows.now) (inner_tables conjuncts.now) }
     ensures served { IfOk result (λ p. AllServed (R.tables planner.now.rows.now) p.indexes.items (accesses p.stage)) }
     ensures kept { IfOk result (λ p. (all : Seq Reading) → AllServed (R.tables planner.now.rows.now) indexes.entry.items all → AllServed (R.tables planner.now.rows.now) p.indexes.items all) }
 {

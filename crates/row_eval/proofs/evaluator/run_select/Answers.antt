@@ -1,4 +1,4 @@
-use Rattle.std.proofs.Common.{◌≡◌, ◌∙◌, [], List, ap, subst}
+use Rattle.std.proofs.Common.{◌≤◌, refl, arith, ◌≡◌, ◌∙◌, [], List, ap, subst}
 use Rattle.std.specs.List.{list_all}
 use Rattle.std.specs.Borrow.{Bor}
 use Rattle.pgq_base.specs.declared.rows.Row.{Row}
@@ -10,7 +10,8 @@ use Rattle.row_eval.specs.Answered.{AreOutputsOf}
 use Rattle.row_eval.specs.Plans.{items_in}
 use Rattle.row_eval.specs.Scopes.{Placed, placed, reach_under}
 use Rattle.row_eval.specs.Slots.{lent_rows}
-use Rattle.row_eval.specs.Stages.{found, Collects}
+use Rattle.row_eval.specs.Stages.{found, visits, Collects}
+use Rattle.sql_algebra.specs.RowReads.{select_reads}
 use Rattle.row_eval.proofs.AnswerLemmas.{columns_sound, answered}
 use Rattle.row_eval.proofs.SortLemmas.{if_ok}
 use Rattle.row_eval.proofs.evaluator.run_select.Goals as goal
@@ -25,8 +26,8 @@ outputs_of-requires g c =
     ap (λ (reach : List Placed). all reach c.as_slice-columns.result.now) same ∙ ap (all (reach_under select.from [])) c.as_slice-columns.ensures
     ∙ columns_sound catalog (g.R.RowSource.tables c.args.planner.now.rows.now) c.requires.meets select c.requires.sound
 
-pub returns : goal.returns
-returns g c =
+pub returns-clause-rows : goal.returns-clause-rows
+returns-clause-rows g c =
     let T = g.R.RowSource.tables c.args.planner.now.rows.now in
     let catalog = c.args.planner.now.catalog.now in
     let select = c.args.select.now in
@@ -42,3 +43,13 @@ returns g c =
     (subst (λ (s : List (Bor Row)). Collects outputs 1000000 c.args.out.now c.run.new.out (found T stage (lent_rows s)) all) c.new-stack.ensures.items
     (subst (λ (o : List Output). Collects o 1000000 c.args.out.now c.run.new.out (found T stage (lent_rows c.new-stack.result.items)) all) c.as_slice-4.ensures h)))
     c.run.ensures.collects
+
+pub returns-clause-steps : goal.returns-clause-steps
+returns-clause-steps g c =
+    let T = g.R.RowSource.tables c.args.planner.now.rows.now in
+    let stage = c.in_ok-planned.planned.stage in
+    let planned = c.plan.ensures.steps in
+    let read = c.run.ensures.steps in
+    let same : visits T stage (lent_rows c.new-stack.result.items) ≡ visits T stage [] = ap (λ (s : List (Bor Row)). visits T stage (lent_rows s)) c.new-stack.ensures.items in
+    let within : visits T stage [] ≤ select_reads c.args.planner.now.catalog.now T c.args.select.now [] = c.in_ok-planned.ensures.within [] refl tt in
+    omega (arith, planned, read, same, within)
