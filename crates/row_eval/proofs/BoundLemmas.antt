@@ -58,11 +58,13 @@ module _ (catalog : Catalog) (leaf : ColumnLeaf) where
           let in_it : is_in x.alias (aliases outer) ≡ true = ap (λ n. is_in n (aliases outer)) same ∙ h in
           let never : false ≡ true = ap not (sym in_it) ∙ k in absurd cc
 
-  skip_slots : (place : ℕ) (later : List FromItem) (outer : List Placed) → others later ≡ true → slot_in_reach catalog (own_places place later ++ outer) leaf ≡ slot_in_reach catalog outer leaf
+  skip_slots : (place : ℕ) (later : List FromItem) (outer : List Placed) → others later ≡ true → slot_in_reach catalog (own_places place later ++ outer) leaf
+      ≡ slot_in_reach catalog outer leaf
   skip_slots place [] outer h = refl
   skip_slots place (x ∷ later) outer h =
       let two = and_parts (not (bytes_eq x.alias leaf.alias)) (others later) h in
-      ap (λ b. cond b (Some (record { item = place; column = column_place catalog x.table leaf.column; class = leaf.class })) (slot_in_reach catalog (own_places (suc place) later ++ outer) leaf)) (not_true (bytes_eq x.alias leaf.alias) two.0)
+      ap (λ b. cond b (Some (record { item = place; column = column_place catalog x.table leaf.column; class = leaf.class }))
+      (slot_in_reach catalog (own_places (suc place) later ++ outer) leaf)) (not_true (bytes_eq x.alias leaf.alias) two.0)
       ∙ skip_slots (suc place) later outer two.1
 
   part_slots : (place next : ℕ) (done later : List FromItem) (outer : List Placed) → (is_in leaf.alias (aliases (items_in outer)) ≡ true → others later ≡ true)
@@ -74,8 +76,10 @@ module _ (catalog : Catalog) (leaf : ColumnLeaf) where
       by : (b : Bool) → (b || is_in leaf.alias (aliases (done ++ items_in outer))) ≡ true
           → (is_in leaf.alias (aliases (done ++ items_in outer)) ≡ true
           → slot_in_reach catalog (own_places (suc place) done ++ (own_places next later ++ outer)) leaf ≡ slot_in_reach catalog (own_places (suc place) done ++ outer) leaf)
-          → cond b (Some (record { item = place; column = column_place catalog x.table leaf.column; class = leaf.class })) (slot_in_reach catalog (own_places (suc place) done ++ (own_places next later ++ outer)) leaf)
-          ≡ cond b (Some (record { item = place; column = column_place catalog x.table leaf.column; class = leaf.class })) (slot_in_reach catalog (own_places (suc place) done ++ outer) leaf)
+          → cond b (Some (record { item = place; column = column_place catalog x.table leaf.column; class = leaf.class }))
+          (slot_in_reach catalog (own_places (suc place) done ++ (own_places next later ++ outer)) leaf)
+          ≡ cond b (Some (record { item = place; column = column_place catalog x.table leaf.column; class = leaf.class }))
+          (slot_in_reach catalog (own_places (suc place) done ++ outer) leaf)
       by true h later = refl
       by false h later = later h
 
@@ -99,29 +103,36 @@ module _ (catalog : Catalog) (leaf : ColumnLeaf) where
   own_append : (place : ℕ) (xs ys : List FromItem) → own_places place (xs ++ ys) ≡ own_places place xs ++ own_places (place + length xs) ys
   own_append place [] ys = ap (λ n. own_places n ys) (omega arith)
   own_append place (x ∷ xs) ys =
-      ap (λ (l : List Placed). let r : Placed = record { item = x; place = place } in r ∷ l) (own_append (suc place) xs ys ∙ ap (λ n. own_places (suc place) xs ++ own_places n ys) (omega arith))
+      ap (λ (l : List Placed). let r : Placed = record { item = x; place = place } in r ∷ l)
+      (own_append (suc place) xs ys ∙ ap (λ n. own_places (suc place) xs ++ own_places n ys) (omega arith))
 
   -- a leaf that stands in the first part means there what it means in the whole
   same_leaf : (done later : List FromItem) (outer : List Placed) → Differ (items_in outer) (done ++ later) → is_in leaf.alias (aliases (done ++ items_in outer)) ≡ true
       → leaf_expr_of catalog (reach_under (done ++ later) outer) leaf ≡ leaf_expr_of catalog (reach_under done outer) leaf
   same_leaf done later outer differ h =
       ap (leaf_at_slot leaf)
-      (ap (λ r. slot_in_reach catalog r leaf) (ap (λ l. l ++ outer) (own_append (length outer) done later) ∙ append_assoc (own_places (length outer) done) (own_places (length outer + length done) later) outer)
-      ∙ part_slots (length outer) (length outer + length done) done later outer (λ k. none_sought (items_in outer) later k (later_apart (items_in outer) catalog leaf done later differ)) h)
+      (ap (λ r. slot_in_reach catalog r leaf)
+      (ap (λ l. l ++ outer) (own_append (length outer) done later) ∙ append_assoc (own_places (length outer) done) (own_places (length outer + length done) later) outer)
+      ∙ part_slots (length outer) (length outer + length done) done later outer
+      (λ k. none_sought (items_in outer) later k (later_apart (items_in outer) catalog leaf done later differ)) h)
 
   same_sound : (done later : List FromItem) (outer : List Placed) → Differ (items_in outer) (done ++ later) → is_in leaf.alias (aliases (done ++ items_in outer)) ≡ true
       → leaf_is_sound catalog ((done ++ later) ++ items_in outer) leaf ≡ leaf_is_sound catalog (done ++ items_in outer) leaf
   same_sound done later outer differ h =
       ap (λ r. leaf_is_sound catalog r leaf) (append_assoc done later (items_in outer))
-      ∙ ap (item_has catalog leaf) (part_found done later (items_in outer) (λ k. none_sought (items_in outer) later k (later_apart (items_in outer) catalog leaf done later differ)) h)
+      ∙ ap (item_has catalog leaf) (part_found done later (items_in outer)
+      (λ k. none_sought (items_in outer) later k (later_apart (items_in outer) catalog leaf done later differ)) h)
 
   -- it has a slot
   has_slot : (reach : List Placed) → is_in leaf.alias (aliases (items_in reach)) ≡ true → (slot : Slot) × (leaf_expr_of catalog reach leaf ≡ v.Leaf slot)
   has_slot [] h = absurd cc
   has_slot (r ∷ reach) h = by (bytes_eq r.item.alias leaf.alias) h (has_slot reach)
     where
-      by : (b : Bool) → (b || is_in leaf.alias (aliases (items_in reach))) ≡ true → (is_in leaf.alias (aliases (items_in reach)) ≡ true → (slot : Slot) × (leaf_expr_of catalog reach leaf ≡ v.Leaf slot))
-          → (slot : Slot) × (leaf_at_slot leaf (cond b (Some (record { item = r.place; column = column_place catalog r.item.table leaf.column; class = leaf.class })) (slot_in_reach catalog reach leaf)) ≡ v.Leaf slot)
+      by : (b : Bool) → (b || is_in leaf.alias (aliases (items_in reach))) ≡ true
+          → (is_in leaf.alias (aliases (items_in reach)) ≡ true → (slot : Slot) × (leaf_expr_of catalog reach leaf ≡ v.Leaf slot))
+          → (slot : Slot) × (leaf_at_slot leaf
+          (cond b (Some (record { item = r.place; column = column_place catalog r.item.table leaf.column; class = leaf.class })) (slot_in_reach catalog reach leaf))
+          ≡ v.Leaf slot)
       by true h later = (record { item = r.place; column = column_place catalog r.item.table leaf.column; class = leaf.class }, refl)
       by false h later = later h
 
@@ -157,7 +168,8 @@ module _ (catalog : Catalog) (done later : List FromItem) (outer : List Placed) 
     same_made : mapped (leaf_expr_of catalog whole) e ≡ mapped (leaf_expr_of catalog part) e
     same_made =
         compared whole ∙ ap (λ x. v.Compare op.Equal x (leaf_expr_of catalog whole pair.right)) (same_leaf catalog pair.left done later outer differ (standing pair.left left))
-        ∙ ap (λ x. v.Compare op.Equal (leaf_expr_of catalog part pair.left) x) (same_leaf catalog pair.right done later outer differ (standing pair.right right)) ∙ sym (compared part)
+        ∙ ap (λ x. v.Compare op.Equal (leaf_expr_of catalog part pair.left) x) (same_leaf catalog pair.right done later outer differ (standing pair.right right))
+        ∙ sym (compared part)
 
     two_leaves : leaves_in e ≡ pair.left ∷ pair.right ∷ []
     two_leaves =
@@ -171,9 +183,11 @@ module _ (catalog : Catalog) (done later : List FromItem) (outer : List Placed) 
         let same : all (done ++ items_in outer) ≡ all ((done ++ later) ++ items_in outer) =
         ap (list_all (leaf_is_sound catalog (done ++ items_in outer))) two_leaves
         ∙ ap (λ b. b && (leaf_is_sound catalog (done ++ items_in outer) pair.right && true)) (sym (same_sound catalog pair.left done later outer differ (standing pair.left left)))
-        ∙ ap (λ b. leaf_is_sound catalog ((done ++ later) ++ items_in outer) pair.left && (b && true)) (sym (same_sound catalog pair.right done later outer differ (standing pair.right right)))
+        ∙ ap (λ b. leaf_is_sound catalog ((done ++ later) ++ items_in outer) pair.left && (b && true))
+        (sym (same_sound catalog pair.right done later outer differ (standing pair.right right)))
         ∙ ap (list_all (leaf_is_sound catalog ((done ++ later) ++ items_in outer))) (sym two_leaves) in
-        ap (λ items. condition_is_sound catalog items e) (reach_items done outer) ∙ ap (λ b. (b && well_classed leaf_class e) && same_class TruthClass (class_in leaf_class e)) same ∙ h
+        ap (λ items. condition_is_sound catalog items e) (reach_items done outer)
+        ∙ ap (λ b. (b && well_classed leaf_class e) && same_class TruthClass (class_in leaf_class e)) same ∙ h
 
     pub kept_means : condition_is_sound catalog ((done ++ later) ++ items_in outer) e ≡ true → is_kept t (mapped (leaf_expr_of catalog whole) e) ≡ holds catalog (tuple_of part t) e
     kept_means h = ap (is_kept t) same_made ∙ means catalog part t typed e (part_sound h)

@@ -58,7 +58,8 @@ module _ (catalog : Catalog) (leaf : ColumnLeaf) where
       ∙ sought_behind xs reach wider sound two.1 k
 
   -- between a chain and the outer items
-  sought_between : (chain later outer : List FromItem) → IsApart outer later ≡ true → leaf_is_sound catalog (chain ++ outer) leaf ≡ true → leaf_is_sound catalog (chain ++ (later ++ outer)) leaf ≡ true
+  sought_between : (chain later outer : List FromItem) → IsApart outer later ≡ true → leaf_is_sound catalog (chain ++ outer) leaf ≡ true
+      → leaf_is_sound catalog (chain ++ (later ++ outer)) leaf ≡ true
   sought_between [] later outer h k = sought_behind later outer outer k h k
   sought_between (x ∷ chain) later outer h k = by (sought leaf x) k (sought_between chain later outer h)
     where
@@ -84,7 +85,8 @@ in_neither : (name : List ℕ) (xs ys : List FromItem) → is_in name (aliases x
 in_neither name xs ys h k = ap (is_in name) (aliases_append xs ys) ∙ is_in_append name (aliases xs) (aliases ys) ∙ ap (λ b. b || is_in name (aliases ys)) h ∙ k
 
 in_first : (name : List ℕ) (xs ys : List FromItem) → is_in name (aliases (xs ++ ys)) ≡ false → (is_in name (aliases xs) ≡ false) × (is_in name (aliases ys) ≡ false)
-in_first name xs ys h = either_false (is_in name (aliases xs)) (is_in name (aliases ys)) (sym (ap (is_in name) (aliases_append xs ys) ∙ is_in_append name (aliases xs) (aliases ys)) ∙ h)
+in_first name xs ys h = either_false (is_in name (aliases xs)) (is_in name (aliases ys))
+    (sym (ap (is_in name) (aliases_append xs ys) ∙ is_in_append name (aliases xs) (aliases ys)) ∙ h)
 
 -- no alias stands twice, nor among the outer ones
 abbrev pub Differ : List FromItem → List FromItem → Type 0
@@ -104,7 +106,8 @@ module _ (outer : List FromItem) where
       ap (λ b. not b && IsApart catalog leaf outer later) three.0 ∙ later_apart catalog leaf [] later three.2
   later_apart catalog leaf (x ∷ xs) later h = later_apart catalog leaf xs later (first_apart x (xs ++ later) h).2
 
-  early_apart : (catalog : Catalog) (leaf : ColumnLeaf) (skipped chain later : List FromItem) → Differ outer (skipped ++ (chain ++ later)) → IsApart catalog leaf (chain ++ outer) skipped ≡ true
+  early_apart : (catalog : Catalog) (leaf : ColumnLeaf) (skipped chain later : List FromItem) → Differ outer (skipped ++ (chain ++ later))
+      → IsApart catalog leaf (chain ++ outer) skipped ≡ true
   early_apart catalog leaf [] chain later h = refl
   early_apart catalog leaf (x ∷ skipped) chain later h =
       let three = first_apart x (skipped ++ (chain ++ later)) h in
@@ -116,7 +119,9 @@ module _ (outer : List FromItem) where
   pub leaf_in_from : (catalog : Catalog) (leaf : ColumnLeaf) (skipped chain later : List FromItem) → Differ outer (skipped ++ (chain ++ later))
       → leaf_is_sound catalog (chain ++ outer) leaf ≡ true → leaf_is_sound catalog ((skipped ++ (chain ++ later)) ++ outer) leaf ≡ true
   leaf_in_from catalog leaf skipped chain later h k =
-      let within : leaf_is_sound catalog (chain ++ (later ++ outer)) leaf ≡ true = sought_between catalog leaf chain later outer (later_apart catalog leaf (skipped ++ chain) later (subst (Differ outer) (sym (append_assoc skipped chain later)) h)) k in
+      let within : leaf_is_sound catalog (chain ++ (later ++ outer)) leaf
+      ≡ true = sought_between catalog leaf chain later outer
+      (later_apart catalog leaf (skipped ++ chain) later (subst (Differ outer) (sym (append_assoc skipped chain later)) h)) k in
       ap (λ r. leaf_is_sound catalog r leaf) (append_assoc skipped (chain ++ later) outer ∙ ap (λ l. skipped ++ l) (append_assoc chain later outer))
       ∙ sought_behind catalog leaf skipped (chain ++ outer) (chain ++ (later ++ outer)) k (early_apart catalog leaf skipped chain later h) within
 
@@ -133,7 +138,9 @@ pub wider_condition : (catalog : Catalog) (reach wider : Reach) → ((leaf : Col
 wider_condition catalog reach wider f e h =
     let one = and_parts (value_is_sound catalog reach e) (same_class TruthClass (class_in leaf_class e)) h in
     let two = and_parts (list_all (leaf_is_sound catalog reach) (leaves_in e)) (well_classed leaf_class e) one.0 in
-    both_true (value_is_sound catalog wider e) _ (both_true (list_all (leaf_is_sound catalog wider) (leaves_in e)) _ (list_implies (leaf_is_sound catalog reach) (leaf_is_sound catalog wider) f (leaves_in e) two.0) two.1) one.1
+    both_true (value_is_sound catalog wider e) _
+    (both_true (list_all (leaf_is_sound catalog wider) (leaves_in e)) _
+    (list_implies (leaf_is_sound catalog reach) (leaf_is_sound catalog wider) f (leaves_in e) two.0) two.1) one.1
 
 one_more : (before : List FromItem) (item : FromItem) (items : List FromItem) → (before ++ item ∷ []) ++ items ≡ before ++ (item ∷ items)
 one_more before item items = append_assoc before (item ∷ []) items

@@ -24,7 +24,8 @@ module _ (catalog : Catalog) where
       slot : Slot
       slot = record { item = r.place; column = column_place catalog r.item.table leaf.column; class = leaf.class }
 
-      go : (b : Bool) → bytes_eq r.item.alias leaf.alias ≡ b → KeepsClass leaf_class slot_class (leaf_expr_of catalog reach) leaf → KeepsClass leaf_class slot_class (leaf_expr_of catalog (r ∷ reach)) leaf
+      go : (b : Bool) → bytes_eq r.item.alias leaf.alias ≡ b → KeepsClass leaf_class slot_class (leaf_expr_of catalog reach) leaf
+          → KeepsClass leaf_class slot_class (leaf_expr_of catalog (r ∷ reach)) leaf
       go true e h = record {
         well_classed = ap (λ b. well_classed slot_class (leaf_at_slot leaf (cond b (Some slot) (slot_in_reach catalog reach leaf)))) e ∙ (rules_kept slot_class).leaf slot;
         class = ap (λ b. class_in slot_class (leaf_at_slot leaf (cond b (Some slot) (slot_in_reach catalog reach leaf)))) e ∙ (classes slot_class).leaf slot;

@@ -65,7 +65,8 @@ slot_parts true None y pair h = absurd cc
 slot_parts true (Some l) None pair h = absurd cc
 slot_parts false x y pair h = absurd cc
 
-equal_form : (x : Expr-F ColumnLeaf (Expr ColumnLeaf)) (pair : LeafPair) → pair_at x ≡ Some pair → roll-Expr ColumnLeaf x ≡ v.Compare op.Equal (v.Leaf pair.left) (v.Leaf pair.right)
+equal_form : (x : Expr-F ColumnLeaf (Expr ColumnLeaf)) (pair : LeafPair) → pair_at x ≡ Some pair → roll-Expr ColumnLeaf x
+    ≡ v.Compare op.Equal (v.Leaf pair.left) (v.Leaf pair.right)
 equal_form (Expr-F.Compare o a b) pair h =
     let three = pair_parts (is_equal o) (leaf_at (out-Expr ColumnLeaf a)) (leaf_at (out-Expr ColumnLeaf b)) pair h in
     v.rolls-Compare o a b ∙ ap (λ c. v.Compare c a b) (equal_alone o three.0) ∙ ap (λ x. v.Compare op.Equal x b) (leaf_alone a pair.left three.1)

@@ -57,11 +57,13 @@ module _ (test : RowValues → Bool) where
       here : get_or all (length before) [] ≡ x
       here = ap (λ l. get_or l (length before) []) e ∙ get_or_behind before x xs
 
-      next : map (λ i. get_or all i []) (places_from test (length (before ++ x ∷ [])) xs) ≡ filter test xs → map (λ i. get_or all i []) (places_from test (suc (length before)) xs) ≡ filter test xs
+      next : map (λ i. get_or all i []) (places_from test (length (before ++ x ∷ [])) xs) ≡ filter test xs
+          → map (λ i. get_or all i []) (places_from test (suc (length before)) xs) ≡ filter test xs
       next h = subst (λ n. map (λ i. get_or all i []) (places_from test n xs) ≡ filter test xs) (length_more before x) h
 
       by : (b : Bool) → map (λ i. get_or all i []) (places_from test (suc (length before)) xs) ≡ filter test xs
-          → map (λ i. get_or all i []) (cond b (length before ∷ places_from test (suc (length before)) xs) (places_from test (suc (length before)) xs)) ≡ cond b (x ∷ filter test xs) (filter test xs)
+          → map (λ i. get_or all i []) (cond b (length before ∷ places_from test (suc (length before)) xs) (places_from test (suc (length before)) xs))
+          ≡ cond b (x ∷ filter test xs) (filter test xs)
       by true h = ap (λ y. y ∷ map (λ i. get_or all i []) (places_from test (suc (length before)) xs)) here ∙ ap (λ l. x ∷ l) h
       by false h = h
 

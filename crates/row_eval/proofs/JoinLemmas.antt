@@ -64,7 +64,8 @@ get_last : {X : Type 0} (xs : List X) (x : X) → slice_get (xs ++ x ∷ []) (le
 get_last [] x = refl
 get_last (z ∷ zs) x = get_last zs x
 
-pub still_served : (instance : InstanceRows) (indexes : List Index) (new : Index) (all : List Access) → AllServed instance indexes all → AllServed instance (indexes ++ new ∷ []) all
+pub still_served : (instance : InstanceRows) (indexes : List Index) (new : Index) (all : List Access) → AllServed instance indexes all
+    → AllServed instance (indexes ++ new ∷ []) all
 still_served instance indexes new [] h = tt
 still_served instance indexes new (a ∷ others) h =
     (record { table = h.0.table; index = h.0.index; at = get_before indexes new h.0.index a.index h.0.at; right = h.0.right }, still_served instance indexes new others h.1)
@@ -104,10 +105,12 @@ joined_visits instance e kept rest access tests table place s is then at long ma
     ∙ ap sum (map_alike (λ row. 1 + visits instance kept (s ++ row ∷ [])) (λ row. 1 + cond (all_kept tests (s ++ row ∷ [])) (visits instance rest (s ++ row ∷ [])) 0)
     (λ row. ap (λ n. 1 + n) (visits-Keep instance (s ++ row ∷ []) kept tests rest then)) (rows_given instance access s))
     ∙ ap (λ rows. visits_passed (visits instance rest) tests s rows)
-    (filter_alike (matches_row access s) (λ row. ties_hold (length s) s row tests) (λ row. matches row ∙ ap (λ n. ties_hold n s row tests) (sym long)) (rows_at instance access.table)
+    (filter_alike (matches_row access s) (λ row. ties_hold (length s) s row tests) (λ row. matches row ∙ ap (λ n. ties_hold n s row tests) (sym long))
+    (rows_at instance access.table)
     ∙ ap (λ t. tied_rows tests s (rows_at instance t)) at)
 
-pub visits_alike : (f g : Stack → ℕ) (tests : List Condition) (s : Stack) → ((row : RowValues) → f (s ++ row ∷ []) ≡ g (s ++ row ∷ [])) → (rows : TableRows) → visits_passed f tests s rows ≡ visits_passed g tests s rows
+pub visits_alike : (f g : Stack → ℕ) (tests : List Condition) (s : Stack) → ((row : RowValues) → f (s ++ row ∷ []) ≡ g (s ++ row ∷ [])) → (rows : TableRows)
+    → visits_passed f tests s rows ≡ visits_passed g tests s rows
 visits_alike f g tests s same rows =
     ap sum (map_alike (λ row. 1 + cond (all_kept tests (s ++ row ∷ [])) (f (s ++ row ∷ [])) 0) (λ row. 1 + cond (all_kept tests (s ++ row ∷ [])) (g (s ++ row ∷ [])) 0)
     (λ row. ap (λ n. 1 + cond (all_kept tests (s ++ row ∷ [])) n 0) (same row)) rows)

@@ -43,14 +43,16 @@ module _ (d : ℕ) where
     layer (Expr-F.Is a t n) h = a.1 h
     layer (Expr-F.InList a es n) h = together (leaves_in a.0) (joined (map leaves_in (map bare es))) (a.1 (omega (arith, h))) (each es (omega (arith, h)))
     layer (Expr-F.Between a b c n) h =
-        together (leaves_in a.0) (leaves_in b.0 ++ leaves_in c.0) (a.1 (omega (arith, h))) (together (leaves_in b.0) (leaves_in c.0) (b.1 (omega (arith, h))) (c.1 (omega (arith, h))))
+        together (leaves_in a.0) (leaves_in b.0 ++ leaves_in c.0) (a.1 (omega (arith, h)))
+        (together (leaves_in b.0) (leaves_in c.0) (b.1 (omega (arith, h))) (c.1 (omega (arith, h))))
     layer (Expr-F.Coalesce es) h = each es h
 
     pub all_below : (e : Expr Slot) → Decides e
     all_below = ind-Expr Slot Decides (λ x y is h.
         let here : level_step (map-Expr Slot (Expr Slot) ℕ level_in x) ≤ d = subst (λ n. n ≤ d) (fold-roll-Expr Slot ℕ level_step x) h in
         subst (AllByRecursion Below) (sym (fold-roll-Expr Slot (List Slot) leaves_step x))
-        (subst (λ z. level_step (map-Expr Slot (Expr Slot) ℕ level_in z) ≤ d → AllByRecursion Below (leaves_step (map-Expr Slot (Expr Slot) (List Slot) leaves_in z))) is (layer y) here))
+        (subst (λ z. level_step (map-Expr Slot (Expr Slot) ℕ level_in z) ≤ d → AllByRecursion Below (leaves_step (map-Expr Slot (Expr Slot) (List Slot) leaves_in z))) is
+        (layer y) here))
 
 same_slots : (s more : Stack) (slots : List Slot) → AllByRecursion (Below (length s)) slots → AllByRecursion (λ slot. slot_value (s ++ more) slot ≡ slot_value s slot) slots
 same_slots s more [] h = tt

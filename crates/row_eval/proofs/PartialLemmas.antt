@@ -25,7 +25,8 @@ module _ (catalog : Catalog) (instance : InstanceRows) (outer : Tuple) where
       → total_behind f before (item ∷ items) ≡ total (λ row. total_behind f (before ++ bound_at item row ∷ []) items) (rows_of catalog instance item.table)
   behind_next f before item items =
       total_flat (λ own. f (before ++ (own ++ outer))) (λ row. map (λ rest. bound_at item row ∷ rest) (tuples catalog instance items)) (rows_of catalog instance item.table)
-      ∙ total_same (λ row. total (λ own. f (before ++ (own ++ outer))) (map (λ rest. bound_at item row ∷ rest) (tuples catalog instance items))) (λ row. total_behind f (before ++ bound_at item row ∷ []) items)
+      ∙ total_same (λ row. total (λ own. f (before ++ (own ++ outer))) (map (λ rest. bound_at item row ∷ rest) (tuples catalog instance items)))
+      (λ row. total_behind f (before ++ bound_at item row ∷ []) items)
       (λ row. total_map (λ own. f (before ++ (own ++ outer))) (λ rest. bound_at item row ∷ rest) (tuples catalog instance items)
       ∙ total_same (λ own. f (before ++ ((bound_at item row ∷ own) ++ outer))) (λ own. f ((before ++ bound_at item row ∷ []) ++ (own ++ outer)))
       (λ own. ap f (sym (append_assoc before (bound_at item row ∷ []) (own ++ outer)))) (tuples catalog instance items))
@@ -40,21 +41,26 @@ module _ (catalog : Catalog) (instance : InstanceRows) (outer : Tuple) where
     partials before items = total (total_behind one_if_agrees before) (fronts items)
 
     pub partials_next : (before : Tuple) (item : FromItem) (items : List FromItem)
-        → partials before (item ∷ items) ≡ total (λ row. one_if_agrees ((before ++ bound_at item row ∷ []) ++ outer) + partials (before ++ bound_at item row ∷ []) items) (rows_of catalog instance item.table)
+        → partials before (item ∷ items)
+        ≡ total (λ row. one_if_agrees ((before ++ bound_at item row ∷ []) ++ outer) + partials (before ++ bound_at item row ∷ []) items) (rows_of catalog instance item.table)
     partials_next before item items =
         let rows = rows_of catalog instance item.table in
         let T = total_behind one_if_agrees in
         ap (λ n. T before (item ∷ []) + n)
         (total_map (T before) (λ front. item ∷ front) (fronts items)
-        ∙ total_same (λ front. T before (item ∷ front)) (λ front. total (λ row. T (before ++ bound_at item row ∷ []) front) rows) (λ front. behind_next one_if_agrees before item front) (fronts items)
+        ∙ total_same (λ front. T before (item ∷ front)) (λ front. total (λ row. T (before ++ bound_at item row ∷ []) front) rows)
+        (λ front. behind_next one_if_agrees before item front) (fronts items)
         ∙ total_turned (λ (front : List FromItem) (row : RowValues). T (before ++ bound_at item row ∷ []) front) (fronts items) rows)
         ∙ ap (λ n. n + total (λ row. partials (before ++ bound_at item row ∷ []) items) rows)
         (behind_next one_if_agrees before item []
-        ∙ total_same (λ row. T (before ++ bound_at item row ∷ []) []) (λ row. one_if_agrees ((before ++ bound_at item row ∷ []) ++ outer)) (λ row. behind_none one_if_agrees (before ++ bound_at item row ∷ [])) rows)
+        ∙ total_same (λ row. T (before ++ bound_at item row ∷ []) []) (λ row. one_if_agrees ((before ++ bound_at item row ∷ []) ++ outer))
+        (λ row. behind_none one_if_agrees (before ++ bound_at item row ∷ [])) rows)
         ∙ sym (total_both (λ row. one_if_agrees ((before ++ bound_at item row ∷ []) ++ outer)) (λ row. partials (before ++ bound_at item row ∷ []) items) rows)
 
-    under_total : (f : Tuple → ℕ) (p : Tuple → Bool) (items : List FromItem) → total f (filter p (tuples_under catalog instance items outer)) ≡ total_behind (λ tuple. cond (p tuple) (f tuple) 0) [] items
-    under_total f p items = total_filter f p (tuples_under catalog instance items outer) ∙ total_map (λ tuple. cond (p tuple) (f tuple) 0) (λ own. own ++ outer) (tuples catalog instance items)
+    under_total : (f : Tuple → ℕ) (p : Tuple → Bool) (items : List FromItem) → total f (filter p (tuples_under catalog instance items outer))
+        ≡ total_behind (λ tuple. cond (p tuple) (f tuple) 0) [] items
+    under_total f p items = total_filter f p (tuples_under catalog instance items outer)
+        ∙ total_map (λ tuple. cond (p tuple) (f tuple) 0) (λ own. own ++ outer) (tuples catalog instance items)
 
     pub partials_all : (items : List FromItem) → length (partial_tuples catalog instance conditions items outer) ≡ partials [] items
     partials_all items =

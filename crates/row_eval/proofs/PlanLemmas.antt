@@ -67,7 +67,8 @@ map_filter : {X Y : Type 0} (f : X → Y) (q : Y → Bool) (xs : List X) → map
 map_filter f q [] = refl
 map_filter {X} {Y} f q (x ∷ xs) = by (q (f x)) (map_filter f q xs)
   where
-    by : (b : Bool) → map f (filter (λ y. q (f y)) xs) ≡ filter q (map f xs) → map f (cond b (x ∷ filter (λ y. q (f y)) xs) (filter (λ y. q (f y)) xs)) ≡ cond b (f x ∷ filter q (map f xs)) (filter q (map f xs))
+    by : (b : Bool) → map f (filter (λ y. q (f y)) xs) ≡ filter q (map f xs) → map f (cond b (x ∷ filter (λ y. q (f y)) xs) (filter (λ y. q (f y)) xs))
+        ≡ cond b (f x ∷ filter q (map f xs)) (filter q (map f xs))
     by true h = ap (λ l. f x ∷ l) h
     by false h = h
 
@@ -77,7 +78,8 @@ filter_same p q (x ∷ xs) h =
     ap (λ b. cond b (x ∷ filter p xs) (filter p xs)) h.0 ∙ ap (λ l. cond (q x) (x ∷ l) l) (filter_same p q xs h.1)
 
 -- the ends behind what is kept
-ends : (p a : Stack → Bool) (f : Stack → List Stack) (xs : List Stack) → AllByRecursion (λ t. f t ≡ cond (a t) (t ∷ []) []) xs → flat_map f (filter p xs) ≡ filter (λ t. p t && a t) xs
+ends : (p a : Stack → Bool) (f : Stack → List Stack) (xs : List Stack) → AllByRecursion (λ t. f t ≡ cond (a t) (t ∷ []) []) xs → flat_map f (filter p xs)
+    ≡ filter (λ t. p t && a t) xs
 ends p a f [] h = refl
 ends p a f (t ∷ ts) h = by (p t) (a t) h.0 (ends p a f ts h.1)
   where
@@ -97,7 +99,8 @@ under_first false p xs = sym (none_kept p xs)
 
 -- ---- conditions that are sorted are decided
 
-pub kept_decided : (s more : Stack) (tests : List Condition) → length s < 2 ^ 64 - 1 → AllByRecursion (λ (c : Condition). level_in c.expr ≤ length s) tests → all_kept tests (s ++ more) ≡ all_kept tests s
+pub kept_decided : (s more : Stack) (tests : List Condition) → length s < 2 ^ 64 - 1 → AllByRecursion (λ (c : Condition). level_in c.expr ≤ length s) tests
+    → all_kept tests (s ++ more) ≡ all_kept tests s
 kept_decided s more [] small h = refl
 kept_decided s more (c ∷ cs) small h =
     ap (λ b. b && all_kept cs (s ++ more)) (decided s more c.expr small h.0) ∙ ap (λ b. is_kept s c.expr && b) (kept_decided s more cs small h.1)
@@ -106,18 +109,25 @@ at_most : (n m : ℕ) (tests : List Condition) → n ≡ m → AllByRecursion (�
 at_most n m [] e h = tt
 at_most n m (c ∷ cs) e h = (let k = h.0 in omega (arith, k, e), at_most n m cs e h.1)
 
-legs_decided : (instance : InstanceRows) (legs : List Leg) (depth : ℕ) → depth + length legs < 2 ^ 64 - 1 → AreDecidedAt depth legs → Decided condition_holds depth (levels_of instance legs)
+legs_decided : (instance : InstanceRows) (legs : List Leg) (depth : ℕ) → depth + length legs < 2 ^ 64 - 1 → AreDecidedAt depth legs
+    → Decided condition_holds depth (levels_of instance legs)
 legs_decided instance [] depth small h = tt
-legs_decided instance (leg ∷ legs) depth small h =
-    (λ stack more long. kept_decided stack more leg.tests (omega (arith, long, small)) (at_most (suc depth) (length stack) leg.tests (sym long) h.0), legs_decided instance legs (suc depth) (omega (arith, small)) h.1)
+legs_decided instance (leg ∷ legs) depth small h = (
+  λ stack more long. kept_decided stack more leg.tests (omega (arith, long, small)) (at_most (suc depth) (length stack) leg.tests (sym long) h.0),
+  legs_decided instance legs
+      (suc depth) (omega (arith, small)) h.1,
+)
 
 -- the tests of all legs
-tests_pass : (instance : InstanceRows) (t : Stack) (legs : List Leg) → kept condition_holds (all_tests condition_holds (levels_of instance legs)) t ≡ list_all (λ (leg : Leg). each_passes (is_kept t) leg.tests) legs
+tests_pass : (instance : InstanceRows) (t : Stack) (legs : List Leg) → kept condition_holds (all_tests condition_holds (levels_of instance legs)) t
+    ≡ list_all (λ (leg : Leg). each_passes (is_kept t) leg.tests) legs
 tests_pass instance t [] = refl
 tests_pass instance t (leg ∷ legs) =
-    list_all-append (condition_holds t) leg.tests (all_tests condition_holds (levels_of instance legs)) ∙ ap (λ b. each_passes (is_kept t) leg.tests && b) (tests_pass instance t legs)
+    list_all-append (condition_holds t) leg.tests (all_tests condition_holds (levels_of instance legs))
+    ∙ ap (λ b. each_passes (is_kept t) leg.tests && b) (tests_pass instance t legs)
 
-level_rows : (instance : InstanceRows) (legs : List Leg) → map (λ (l : Level condition_holds). l.rows) (levels_of instance legs) ≡ map (λ (leg : Leg). rows_at instance leg.table) legs
+level_rows : (instance : InstanceRows) (legs : List Leg) → map (λ (l : Level condition_holds). l.rows) (levels_of instance legs)
+    ≡ map (λ (leg : Leg). rows_at instance leg.table) legs
 level_rows instance [] = refl
 level_rows instance (leg ∷ legs) = ap (λ l. rows_at instance leg.table ∷ l) (level_rows instance legs)
 
@@ -128,7 +138,8 @@ module _ (instance : InstanceRows) (first : List Condition) (legs : List Leg) (t
   stacks = map (λ rest. s ++ rest) (rows_choices tables)
 
   first_same : IsSorted (length s) first legs → length s < 2 ^ 64 - 1 → (rests : List Stack)
-      → AllByRecursion (λ t. ((all_kept first s && (list_all (λ (leg : Leg). each_passes (is_kept t) leg.tests) legs && a t))) ≡ (all_pass (is_kept t) first legs && a t)) (map (λ rest. s ++ rest) rests)
+      → AllByRecursion (λ t. ((all_kept first s && (list_all (λ (leg : Leg). each_passes (is_kept t) leg.tests) legs && a t))) ≡ (all_pass (is_kept t) first legs && a t))
+      (map (λ rest. s ++ rest) rests)
   first_same sorted small [] = tt
   first_same sorted small (rest ∷ rests) = (
     ap (λ b. b && (list_all (λ (leg : Leg). each_passes (is_kept (s ++ rest)) leg.tests) legs && a (s ++ rest))) (sym (kept_decided s rest first small sorted.first))
@@ -146,12 +157,15 @@ module _ (instance : InstanceRows) (first : List Condition) (legs : List Leg) (t
   chain_filter sorted small same each_end =
       ap (λ x. cond (all_kept first s) x [])
       (chain_means instance legs f (length s) s refl (legs_decided instance legs (length s) small sorted.legs)
-      ∙ ap (λ x. flat_map f (filter (kept condition_holds (all_tests condition_holds (levels_of instance legs))) (map (λ rest. s ++ rest) (choices condition_holds x)))) (level_rows instance legs ∙ same)
+      ∙ ap (λ x. flat_map f (filter (kept condition_holds (all_tests condition_holds (levels_of instance legs))) (map (λ rest. s ++ rest) (choices condition_holds x))))
+      (level_rows instance legs ∙ same)
       ∙ ends (kept condition_holds (all_tests condition_holds (levels_of instance legs))) a f stacks each_end
-      ∙ filter_same (λ t. kept condition_holds (all_tests condition_holds (levels_of instance legs)) t && a t) (λ t. list_all (λ (leg : Leg). each_passes (is_kept t) leg.tests) legs && a t) stacks
+      ∙ filter_same (λ t. kept condition_holds (all_tests condition_holds (levels_of instance legs)) t && a t)
+      (λ t. list_all (λ (leg : Leg). each_passes (is_kept t) leg.tests) legs && a t) stacks
       (everywhere (λ t. ap (λ b. b && a t) (tests_pass instance t legs)) stacks))
       ∙ under_first (all_kept first s) (λ t. list_all (λ (leg : Leg). each_passes (is_kept t) leg.tests) legs && a t) stacks
-      ∙ filter_same (λ t. all_kept first s && (list_all (λ (leg : Leg). each_passes (is_kept t) leg.tests) legs && a t)) (λ t. all_pass (is_kept t) first legs && a t) stacks (first_same sorted (omega (arith, small)) (rows_choices tables))
+      ∙ filter_same (λ t. all_kept first s && (list_all (λ (leg : Leg). each_passes (is_kept t) leg.tests) legs && a t)) (λ t. all_pass (is_kept t) first legs && a t) stacks
+      (first_same sorted (omega (arith, small)) (rows_choices tables))
     where
       everywhere : {P : Stack → Type 0} → ((t : Stack) → P t) → (ts : List Stack) → AllByRecursion P ts
       everywhere h [] = tt
@@ -163,14 +177,16 @@ choices_long : (tables : List TableRows) → AllByRecursion (λ rest. length res
 choices_long [] = (refl, tt)
 choices_long (rows ∷ tables) = each rows (choices_long tables)
   where
-    with_row : (row : RowValues) (rests : List Stack) → AllByRecursion (λ rest. length rest ≡ length tables) rests → AllByRecursion (λ rest. length rest ≡ suc (length tables)) (map (λ rest. row ∷ rest) rests)
+    with_row : (row : RowValues) (rests : List Stack) → AllByRecursion (λ rest. length rest ≡ length tables) rests
+        → AllByRecursion (λ rest. length rest ≡ suc (length tables)) (map (λ rest. row ∷ rest) rests)
     with_row row [] h = tt
     with_row row (rest ∷ rests) h = (ap suc h.0, with_row row rests h.1)
 
     each : (rows : TableRows) → AllByRecursion (λ rest. length rest ≡ length tables) (rows_choices tables)
         → AllByRecursion (λ rest. length rest ≡ suc (length tables)) (flat_map (λ row. map (λ rest. row ∷ rest) (rows_choices tables)) rows)
     each [] h = tt
-    each (row ∷ rows) h = all_append (λ rest. length rest ≡ suc (length tables)) (map (λ rest. row ∷ rest) (rows_choices tables)) _ (with_row row (rows_choices tables) h) (each rows h)
+    each (row ∷ rows) h = all_append (λ rest. length rest ≡ suc (length tables)) (map (λ rest. row ∷ rest) (rows_choices tables)) _ (with_row row (rows_choices tables) h)
+        (each rows h)
 
 own_long : (place : ℕ) (items : List FromItem) → length (own_places place items) ≡ length items
 own_long place [] = refl
@@ -199,20 +215,24 @@ list_each : {X : Type 0} (p : X → Bool) (P : X → Type 0) → ((x : X) → p 
 list_each p P f [] h = tt
 list_each p P f (x ∷ xs) h = let two = and_parts (p x) (list_all p xs) h in (f x two.0, list_each p P f xs two.1)
 
-pub typed_leaves : (catalog : Catalog) (reach : List Placed) (t : Stack) → IsTyped catalog (tuple_of reach t) → (e : Expr ColumnLeaf) → value_is_sound catalog (items_in reach) e ≡ true
+pub typed_leaves : (catalog : Catalog) (reach : List Placed) (t : Stack) → IsTyped catalog (tuple_of reach t) → (e : Expr ColumnLeaf)
+    → value_is_sound catalog (items_in reach) e ≡ true
     → AllByRecursion (λ (l : ColumnLeaf). IsOf l.class (leaf_value catalog (tuple_of reach t) l)) (leaves_in e)
 typed_leaves catalog reach t typed e sound =
     list_each (leaf_is_sound catalog (items_in reach)) _
     (λ l h. typed_leaf catalog (tuple_of reach t) l typed (ap (λ items. leaf_is_sound catalog items l) (tuple_items reach t) ∙ h)) (leaves_in e)
     (and_parts (list_all (leaf_is_sound catalog (items_in reach)) (leaves_in e)) (well_classed leaf_class e) sound).0
 
-pub means : (catalog : Catalog) (reach : List Placed) (t : Stack) → IsTyped catalog (tuple_of reach t) → (e : Expr ColumnLeaf) → condition_is_sound catalog (items_in reach) e ≡ true
+pub means : (catalog : Catalog) (reach : List Placed) (t : Stack) → IsTyped catalog (tuple_of reach t) → (e : Expr ColumnLeaf) → condition_is_sound catalog (items_in reach) e
+    ≡ true
     → is_kept t (mapped (leaf_expr_of catalog reach) e) ≡ holds catalog (tuple_of reach t) e
 means catalog reach t typed e sound =
     ap (λ v. is_true (truth_of_value v))
-    (resolved_value catalog t reach e (typed_leaves catalog reach t typed e (and_parts (value_is_sound catalog (items_in reach) e) (same_class TruthClass (class_in leaf_class e)) sound).0))
+    (resolved_value catalog t reach e
+    (typed_leaves catalog reach t typed e (and_parts (value_is_sound catalog (items_in reach) e) (same_class TruthClass (class_in leaf_class e)) sound).0))
 
-pub all_mean : (catalog : Catalog) (reach : List Placed) (t : Stack) → IsTyped catalog (tuple_of reach t) → (es : List (Expr ColumnLeaf)) → list_all (condition_is_sound catalog (items_in reach)) es ≡ true
+pub all_mean : (catalog : Catalog) (reach : List Placed) (t : Stack) → IsTyped catalog (tuple_of reach t) → (es : List (Expr ColumnLeaf))
+    → list_all (condition_is_sound catalog (items_in reach)) es ≡ true
     → list_all (λ e. is_kept t (mapped (leaf_expr_of catalog reach) e)) es ≡ list_all (holds catalog (tuple_of reach t)) es
 all_mean catalog reach t typed [] sound = refl
 all_mean catalog reach t typed (e ∷ es) sound =
@@ -223,16 +243,19 @@ all_mean catalog reach t typed (e ∷ es) sound =
 -- ---- conjuncts
 
 module _ (catalog : Catalog) (instance : InstanceRows) (tuple : Tuple) where
-  conjunct_parts : (c : Conjunct) → conjunct_holds catalog instance c tuple ≡ (list_all (holds catalog tuple) (plain_at (out-Conjunct c)) && is_absent_at catalog instance tuple (out-Conjunct c))
+  conjunct_parts : (c : Conjunct) → conjunct_holds catalog instance c tuple
+      ≡ (list_all (holds catalog tuple) (plain_at (out-Conjunct c)) && is_absent_at catalog instance tuple (out-Conjunct c))
   conjunct_parts c = ap (λ x. conjunct_holds catalog instance x tuple) (sym (roll-out-Conjunct c)) ∙ by (out-Conjunct c)
     where
       and_trues : (b : Bool) → b ≡ ((b && true) && true)
       and_trues true = refl
       and_trues false = refl
 
-      by : (x : Conjunct-F Conjunct Select) → conjunct_holds catalog instance (roll-Conjunct x) tuple ≡ (list_all (holds catalog tuple) (plain_at x) && is_absent_at catalog instance tuple x)
+      by : (x : Conjunct-F Conjunct Select) → conjunct_holds catalog instance (roll-Conjunct x) tuple
+          ≡ (list_all (holds catalog tuple) (plain_at x) && is_absent_at catalog instance tuple x)
       by (Conjunct-F.Plain e) =
-          ap (λ f. f tuple) (fold-roll-Conjunct (Tuple → Bool) (Tuple → TableRows) (m.conjunct_step catalog) (m.select_step catalog instance) (Conjunct-F.Plain e)) ∙ and_trues (holds catalog tuple e)
+          ap (λ f. f tuple) (fold-roll-Conjunct (Tuple → Bool) (Tuple → TableRows) (m.conjunct_step catalog) (m.select_step catalog instance) (Conjunct-F.Plain e))
+          ∙ and_trues (holds catalog tuple e)
       by (Conjunct-F.NotExists select) =
           ap (λ f. f tuple) (fold-roll-Conjunct (Tuple → Bool) (Tuple → TableRows) (m.conjunct_step catalog) (m.select_step catalog instance) (Conjunct-F.NotExists select))
 
@@ -250,16 +273,20 @@ module _ (catalog : Catalog) (instance : InstanceRows) (tuple : Tuple) where
       ≡ list_all (λ conjunct. conjunct tuple) (map (conjunct_holds catalog instance) cs)
   conjuncts_parts [] = refl
   conjuncts_parts (c ∷ cs) =
-      ap (λ b. b && (is_absent_at catalog instance tuple (out-Conjunct c) && all_absent catalog instance cs tuple)) (list_all-append (holds catalog tuple) (plain_at (out-Conjunct c)) (flat_map (λ c. plain_at (out-Conjunct c)) cs))
-      ∙ and_pairs (list_all (holds catalog tuple) (plain_at (out-Conjunct c))) (list_all (holds catalog tuple) (flat_map (λ c. plain_at (out-Conjunct c)) cs)) (is_absent_at catalog instance tuple (out-Conjunct c)) (all_absent catalog instance cs tuple)
+      ap (λ b. b && (is_absent_at catalog instance tuple (out-Conjunct c) && all_absent catalog instance cs tuple))
+      (list_all-append (holds catalog tuple) (plain_at (out-Conjunct c)) (flat_map (λ c. plain_at (out-Conjunct c)) cs))
+      ∙ and_pairs (list_all (holds catalog tuple) (plain_at (out-Conjunct c))) (list_all (holds catalog tuple) (flat_map (λ c. plain_at (out-Conjunct c)) cs))
+      (is_absent_at catalog instance tuple (out-Conjunct c)) (all_absent catalog instance cs tuple)
       ∙ ap (λ b. b && (list_all (holds catalog tuple) (flat_map (λ c. plain_at (out-Conjunct c)) cs) && all_absent catalog instance cs tuple)) (sym (conjunct_parts c))
       ∙ ap (λ b. conjunct_holds catalog instance c tuple && b) (conjuncts_parts cs)
 
   select_parts : (select : Select) → (list_all (holds catalog tuple) (conditions_in select.from select.conjuncts) && all_absent catalog instance select.conjuncts tuple)
       ≡ select_holds catalog (record { columns = select.columns; from = select.from; conjuncts = map (conjunct_holds catalog instance) select.conjuncts }) tuple
   select_parts select =
-      ap (λ b. b && all_absent catalog instance select.conjuncts tuple) (list_all-append (holds catalog tuple) (all_members select.from) (flat_map (λ c. plain_at (out-Conjunct c)) select.conjuncts))
-      ∙ and_last (list_all (holds catalog tuple) (all_members select.from)) (list_all (holds catalog tuple) (flat_map (λ c. plain_at (out-Conjunct c)) select.conjuncts)) (all_absent catalog instance select.conjuncts tuple)
+      ap (λ b. b && all_absent catalog instance select.conjuncts tuple)
+      (list_all-append (holds catalog tuple) (all_members select.from) (flat_map (λ c. plain_at (out-Conjunct c)) select.conjuncts))
+      ∙ and_last (list_all (holds catalog tuple) (all_members select.from)) (list_all (holds catalog tuple) (flat_map (λ c. plain_at (out-Conjunct c)) select.conjuncts))
+      (all_absent catalog instance select.conjuncts tuple)
       ∙ ap (λ b. list_all (holds catalog tuple) (all_members select.from) && b) (conjuncts_parts select.conjuncts)
     where
       and_last : (x y z : Bool) → ((x && y) && z) ≡ (x && (y && z))
@@ -276,7 +303,8 @@ pub record SoundParts (catalog : Catalog) (select : Select) (outer : Reach) : Ty
   pub conditions : list_all (condition_is_sound catalog (select.from ++ outer)) (conditions_in select.from select.conjuncts) ≡ true
   pub conjuncts : list_all (λ conjunct. conjunct (select.from ++ outer)) (map (conjunct_is_sound catalog) select.conjuncts) ≡ true
 
-plain_sound : (catalog : Catalog) (reach : Reach) (c : Conjunct) → conjunct_is_sound catalog c reach ≡ true → list_all (condition_is_sound catalog reach) (plain_at (out-Conjunct c)) ≡ true
+plain_sound : (catalog : Catalog) (reach : Reach) (c : Conjunct) → conjunct_is_sound catalog c reach ≡ true
+    → list_all (condition_is_sound catalog reach) (plain_at (out-Conjunct c)) ≡ true
 plain_sound catalog reach c h = by (out-Conjunct c) (ap (λ x. conjunct_is_sound catalog x reach) (roll-out-Conjunct c) ∙ h)
   where
     by : (x : Conjunct-F Conjunct Select) → conjunct_is_sound catalog (roll-Conjunct x) reach ≡ true → list_all (condition_is_sound catalog reach) (plain_at x) ≡ true
@@ -318,7 +346,8 @@ sound_parts catalog select outer h =
 
 -- ---- the select
 
-module _ (catalog : Catalog) (instance : InstanceRows) (meets : MeetsTypes catalog instance) (select : Select) (outer : List Placed) (sound : select_is_sound catalog select (items_in outer) ≡ true)
+module _ (catalog : Catalog) (instance : InstanceRows) (meets : MeetsTypes catalog instance) (select : Select) (outer : List Placed)
+    (sound : select_is_sound catalog select (items_in outer) ≡ true)
     (below : AreBelow (length outer) outer) where
   abbrev pub whole : List Placed
   whole = reach_under select.from outer
@@ -331,7 +360,8 @@ module _ (catalog : Catalog) (instance : InstanceRows) (meets : MeetsTypes catal
     typed_stacks =
         to_map (λ t. IsTyped catalog (tuple_of whole t)) (λ rest. stack ++ rest) (rows_choices (tables_of catalog instance select.from))
         (all_map (IsTyped catalog) (λ rest. tuple_of whole (stack ++ rest)) (rows_choices (tables_of catalog instance select.from))
-        (subst (AllByRecursion (IsTyped catalog)) (sym (all_tuples catalog instance select.from outer stack long below)) (typed_under catalog instance meets select.from (tuple_of outer stack) typed)))
+        (subst (AllByRecursion (IsTyped catalog)) (sym (all_tuples catalog instance select.from outer stack long below))
+        (typed_under catalog instance meets select.from (tuple_of outer stack) typed)))
 
     one_long : (rest : Stack) → length rest ≡ length (tables_of catalog instance select.from) → length (stack ++ rest) ≡ length whole
     one_long rest h = omega (arith, length-append stack rest, h, tables_long catalog instance select.from, reach_long select.from outer, long)
@@ -341,7 +371,8 @@ module _ (catalog : Catalog) (instance : InstanceRows) (meets : MeetsTypes catal
         to_map (λ t. length t ≡ length whole) (λ rest. stack ++ rest) (rows_choices (tables_of catalog instance select.from))
         (each_longer (rows_choices (tables_of catalog instance select.from)) (choices_long (tables_of catalog instance select.from)))
       where
-        each_longer : (rests : List Stack) → AllByRecursion (λ rest. length rest ≡ length (tables_of catalog instance select.from)) rests → AllByRecursion (λ rest. length (stack ++ rest) ≡ length whole) rests
+        each_longer : (rests : List Stack) → AllByRecursion (λ rest. length rest ≡ length (tables_of catalog instance select.from)) rests
+            → AllByRecursion (λ rest. length (stack ++ rest) ≡ length whole) rests
         each_longer [] h = tt
         each_longer (rest ∷ rests) h = (one_long rest h.0, each_longer rests h.1)
 
@@ -353,15 +384,19 @@ module _ (catalog : Catalog) (instance : InstanceRows) (meets : MeetsTypes catal
     select_found first legs f small sorted tables each_condition each_end =
         let H = select_holds catalog (record { columns = select.columns; from = select.from; conjuncts = map (conjunct_holds catalog instance) select.conjuncts }) in
         let parts = sound_parts catalog select (items_in outer) sound in
-        let sound_conditions = subst (λ items. list_all (condition_is_sound catalog items) (conditions_in select.from select.conjuncts) ≡ true) (sym (reach_items select.from outer)) parts.conditions in
+        let sound_conditions = subst (λ items. list_all (condition_is_sound catalog items) (conditions_in select.from select.conjuncts) ≡ true)
+        (sym (reach_items select.from outer)) parts.conditions in
         ap (map (tuple_of whole))
         (chain_filter instance first legs (tables_of catalog instance select.from) stack f (λ t. all_absent catalog instance select.conjuncts (tuple_of whole t))
         (subst (λ n. IsSorted n first legs) (sym long) sorted) (subst (λ n. n + length legs < 2 ^ 64 - 1) (sym long) small) tables
-        (all_two (λ t. length t ≡ length whole) (λ t. IsTyped catalog (tuple_of whole t)) (λ t. f t ≡ cond (all_absent catalog instance select.conjuncts (tuple_of whole t)) (t ∷ []) []) each_end found_stacks long_stacks typed_stacks)
+        (all_two (λ t. length t ≡ length whole) (λ t. IsTyped catalog (tuple_of whole t))
+        (λ t. f t ≡ cond (all_absent catalog instance select.conjuncts (tuple_of whole t)) (t ∷ []) []) each_end found_stacks long_stacks typed_stacks)
         ∙ filter_same (λ t. all_pass (is_kept t) first legs && all_absent catalog instance select.conjuncts (tuple_of whole t)) (λ t. H (tuple_of whole t)) found_stacks
         (all_two (λ t. IsTyped catalog (tuple_of whole t)) (λ t. IsTyped catalog (tuple_of whole t))
         (λ t. (all_pass (is_kept t) first legs && all_absent catalog instance select.conjuncts (tuple_of whole t)) ≡ H (tuple_of whole t))
-        (λ t h k. ap (λ b. b && all_absent catalog instance select.conjuncts (tuple_of whole t)) (each_condition (is_kept t) ∙ all_mean catalog whole t h (conditions_in select.from select.conjuncts) sound_conditions)
+        (λ t h k. ap (λ b. b && all_absent catalog instance select.conjuncts (tuple_of whole t))
+        (each_condition (is_kept t) ∙ all_mean catalog whole t h (conditions_in select.from select.conjuncts) sound_conditions)
         ∙ select_parts catalog instance (tuple_of whole t) select) found_stacks typed_stacks typed_stacks))
         ∙ map_filter (tuple_of whole) H found_stacks
-        ∙ ap (filter H) (map_map (tuple_of whole) (λ rest. stack ++ rest) (rows_choices (tables_of catalog instance select.from)) ∙ all_tuples catalog instance select.from outer stack long below)
+        ∙ ap (filter H) (map_map (tuple_of whole) (λ rest. stack ++ rest) (rows_choices (tables_of catalog instance select.from))
+        ∙ all_tuples catalog instance select.from outer stack long below)

@@ -71,7 +71,8 @@ each_leg : (n k : ℕ) → n ≡ k → (legs : List Leg) → AllByRecursion (λ 
 each_leg n k e [] h = tt
 each_leg n k e (leg ∷ legs) h = (let one = h.0 in omega (arith, one, e), each_leg n k e legs h.1)
 
-pub legs_within : (catalog : Catalog) (instance : InstanceRows) → MeetsTypes catalog instance → (select : Select) (outer : List Placed) → select_is_sound catalog select (items_in outer) ≡ true
+pub legs_within : (catalog : Catalog) (instance : InstanceRows) → MeetsTypes catalog instance → (select : Select) (outer : List Placed)
+    → select_is_sound catalog select (items_in outer) ≡ true
     → (legs : List Leg) → leg_tables legs ≡ map (table_place_of catalog) select.from → AllByRecursion (λ (leg : Leg). leg.table < length instance) legs
 legs_within catalog instance meets select outer sound legs e =
     each_leg (length catalog.tables) (length instance) (sym meets.tables) legs
@@ -83,7 +84,8 @@ pub placed_long : (reach : List Reached) → length (placed reach) ≡ length re
 placed_long [] = refl
 placed_long (r ∷ reach) = ap suc (placed_long reach)
 
-pub reach_size : (reach : List Reached) (items : List FromItem) (outer : List Reached) → placed reach ≡ reach_under items (placed outer) → length reach ≡ length items + length outer
+pub reach_size : (reach : List Reached) (items : List FromItem) (outer : List Reached) → placed reach ≡ reach_under items (placed outer) → length reach
+    ≡ length items + length outer
 reach_size reach items outer e = sym (placed_long reach) ∙ ap length e ∙ reach_long items (placed outer) ∙ ap (λ n. length items + n) (placed_long outer)
 
 pub own_below : (place n : ℕ) (items : List FromItem) → place + length items ≤ n → AreBelow n (own_places place items)
@@ -119,7 +121,8 @@ legs_below reach items outer e h =
 
 -- ---- the joins
 
-pub joins_plan : (catalog : Catalog) (instance : InstanceRows) → MeetsTypes catalog instance → (select : Select) (outer reach : List Reached) → select_is_sound catalog select (items_in (placed outer)) ≡ true
+pub joins_plan : (catalog : Catalog) (instance : InstanceRows) → MeetsTypes catalog instance → (select : Select) (outer reach : List Reached)
+    → select_is_sound catalog select (items_in (placed outer)) ≡ true
     → AreBelow (length outer) (placed outer) → placed reach ≡ reach_under select.from (placed outer)
     → (sorted : Sorted) (end joined stage : Stage) → stage ≡ v.Keep sorted.first joined
     → ((s : Stack) → length s ≡ length outer → found instance joined s ≡ chain_found instance sorted.legs.items (found instance end) s)
@@ -129,9 +132,12 @@ pub joins_plan : (catalog : Catalog) (instance : InstanceRows) → MeetsTypes ca
     → IsPlanOf catalog instance select (placed outer) stage
 joins_plan catalog instance meets select outer reach sound below same sorted end joined stage is join each_end small in_order tables all = λ s long typed.
     let long_outer = long ∙ placed_long outer in
-    ap (map (tuple_of (reach_under select.from (placed outer)))) (found-Keep instance s stage sorted.first joined is ∙ ap (λ x. cond (all_kept sorted.first s) x []) (join s long_outer))
-    ∙ select_found catalog instance meets select (placed outer) sound (subst (λ n. AreBelow n (placed outer)) (sym (placed_long outer)) below) s long typed sorted.first sorted.legs.items (found instance end)
-    (subst (λ n. n + length sorted.legs.items < 2 ^ 64 - 1) (sym (placed_long outer)) small) (subst (λ n. IsSorted n sorted.first sorted.legs.items) (sym (placed_long outer)) in_order)
+    ap (map (tuple_of (reach_under select.from (placed outer))))
+    (found-Keep instance s stage sorted.first joined is ∙ ap (λ x. cond (all_kept sorted.first s) x []) (join s long_outer))
+    ∙ select_found catalog instance meets select (placed outer) sound
+    (subst (λ n. AreBelow n (placed outer)) (sym (placed_long outer)) below) s long typed sorted.first sorted.legs.items (found instance end)
+    (subst (λ n. n + length sorted.legs.items < 2 ^ 64 - 1) (sym (placed_long outer)) small)
+    (subst (λ n. IsSorted n sorted.first sorted.legs.items) (sym (placed_long outer)) in_order)
     (legs_rows catalog instance sorted.legs.items select.from tables)
     (subst (λ r. SortsAll catalog r (conditions_in select.from select.conjuncts) sorted) same all)
     (subst (λ r. IsEndOf catalog instance select.conjuncts r end) same each_end)
@@ -150,7 +156,8 @@ none_mapped f (x ∷ xs) = refl
 
 -- an inner select finds nothing exactly where it has no row
 inner_none : (catalog : Catalog) (instance : InstanceRows) (select : Select) (reach : List Placed) (stage : Stage) → IsPlanOf catalog instance select reach stage
-    → (s : Stack) → length s ≡ length reach → IsTyped catalog (tuple_of reach s) → has_none (found instance stage s) ≡ has_none (select_rows catalog instance select (tuple_of reach s))
+    → (s : Stack) → length s ≡ length reach → IsTyped catalog (tuple_of reach s) → has_none (found instance stage s)
+    ≡ has_none (select_rows catalog instance select (tuple_of reach s))
 inner_none catalog instance select reach stage plan s long typed =
     sym (none_mapped (tuple_of (reach_under select.from reach)) (found instance stage s)) ∙ ap has_none (plan s long typed)
     ∙ sym (none_mapped (m.output_row catalog select.columns) (kept_by catalog instance select (tuple_of reach s)))
@@ -179,7 +186,8 @@ module _ (catalog : Catalog) (instance : InstanceRows) (reach : List Placed) whe
       ∙ ap (λ b. cond b (s ∷ []) []) (same (all_absent catalog instance (take i all) (tuple_of reach s)) (tuple_of reach s) ∙ sym (absent_more all i x h is (tuple_of reach s)))
     where
       same : (b : Bool) (tuple : Tuple) → b ≡ (b && is_absent_at catalog instance tuple (out-Conjunct x))
-      same b tuple = and_true b ∙ ap (λ y. b && is_absent_at catalog instance tuple y) (sym (ap out-Conjunct (plain ∙ sym (cv.rolls-Plain e)) ∙ out-roll-Conjunct (Conjunct-F.Plain e)))
+      same b tuple = and_true b ∙ ap (λ y. b && is_absent_at catalog instance tuple y)
+          (sym (ap out-Conjunct (plain ∙ sym (cv.rolls-Plain e)) ∙ out-roll-Conjunct (Conjunct-F.Plain e)))
         where
           and_true : (b : Bool) → b ≡ (b && true)
           and_true true = refl
@@ -196,7 +204,8 @@ module _ (catalog : Catalog) (instance : InstanceRows) (reach : List Placed) whe
       ∙ ap (λ l. cond none l []) (each s long typed)
       ∙ turned none (all_absent catalog instance (take i all) tuple) s
       ∙ ap (λ b. cond b (s ∷ []) [])
-      (ap (λ y. all_absent catalog instance (take i all) tuple && is_absent_at catalog instance tuple y) (sym (ap out-Conjunct (not_exists ∙ sym (cv.rolls-NotExists select)) ∙ out-roll-Conjunct (Conjunct-F.NotExists select)))
+      (ap (λ y. all_absent catalog instance (take i all) tuple && is_absent_at catalog instance tuple y)
+      (sym (ap out-Conjunct (not_exists ∙ sym (cv.rolls-NotExists select)) ∙ out-roll-Conjunct (Conjunct-F.NotExists select)))
       ∙ sym (absent_more all i x h is tuple))
     where
       turned : (a b : Bool) (s : Stack) → cond a (cond b (s ∷ []) []) [] ≡ cond (b && a) (s ∷ []) []
@@ -206,16 +215,19 @@ module _ (catalog : Catalog) (instance : InstanceRows) (reach : List Placed) whe
       turned false false s = refl
 
 -- the inner select of a conjunct is sound
-pub conjunct_sound : (catalog : Catalog) (items : List FromItem) (all : List Conjunct) (i : ℕ) (x : Conjunct) (select : Select) → i < length all → x ≡ get_or all i x → x ≡ cv.NotExists select
+pub conjunct_sound : (catalog : Catalog) (items : List FromItem) (all : List Conjunct) (i : ℕ) (x : Conjunct) (select : Select) → i < length all → x ≡ get_or all i x → x
+    ≡ cv.NotExists select
     → list_all (λ conjunct. conjunct items) (map (conjunct_is_sound catalog) all) ≡ true → select_is_sound catalog select items ≡ true
 conjunct_sound catalog items [] i x select h is not_exists all = absurd (omega arith)
 conjunct_sound catalog items (c ∷ cs) zero x select h is not_exists all =
     sym (ap (λ f. f items) (not_exists_sound catalog select)) ∙ ap (λ y. conjunct_is_sound catalog y items) (sym not_exists ∙ is)
     ∙ (and_parts (conjunct_is_sound catalog c items) (list_all (λ conjunct. conjunct items) (map (conjunct_is_sound catalog) cs)) all).0
 conjunct_sound catalog items (c ∷ cs) (suc i) x select h is not_exists all =
-    conjunct_sound catalog items cs i x select (omega arith) is not_exists (and_parts (conjunct_is_sound catalog c items) (list_all (λ conjunct. conjunct items) (map (conjunct_is_sound catalog) cs)) all).1
+    conjunct_sound catalog items cs i x select (omega arith) is not_exists
+    (and_parts (conjunct_is_sound catalog c items) (list_all (λ conjunct. conjunct items) (map (conjunct_is_sound catalog) cs)) all).1
 
-pub absent_served : (instance : InstanceRows) (indexes : List Index) (inner end stage : Stage) → stage ≡ v.Absent inner end → AllServed instance indexes (accesses inner) → AllServed instance indexes (accesses end)
+pub absent_served : (instance : InstanceRows) (indexes : List Index) (inner end stage : Stage) → stage ≡ v.Absent inner end → AllServed instance indexes (accesses inner)
+    → AllServed instance indexes (accesses end)
     → AllServed instance indexes (accesses stage)
 absent_served instance indexes inner end stage is one two = subst (AllServed instance indexes) (sym (accesses-Absent stage inner end is)) (both (accesses inner) one)
   where

@@ -44,14 +44,16 @@ pub stack_longer : (s : Stack) (row : RowValues) → length (s ++ row ∷ []) �
 stack_longer [] row = refl
 stack_longer (x ∷ s) row = ap suc (stack_longer s row)
 
-pub passed_same : (f g : Stack → List Stack) (tests : List Condition) (s : Stack) → ((row : RowValues) → f (s ++ row ∷ []) ≡ g (s ++ row ∷ [])) → (rows : TableRows) → passed_on f tests s rows ≡ passed_on g tests s rows
+pub passed_same : (f g : Stack → List Stack) (tests : List Condition) (s : Stack) → ((row : RowValues) → f (s ++ row ∷ []) ≡ g (s ++ row ∷ [])) → (rows : TableRows)
+    → passed_on f tests s rows ≡ passed_on g tests s rows
 passed_same f g tests s same [] = refl
 passed_same f g tests s same (row ∷ rows) =
     ap (λ x. cond (all_kept tests (s ++ row ∷ [])) x [] ++ passed_on f tests s rows) (same row)
     ∙ ap (λ x. cond (all_kept tests (s ++ row ∷ [])) (g (s ++ row ∷ [])) [] ++ x) (passed_same f g tests s same rows)
 
 -- the rows of a chain without its last leg
-pub rows_popped : (instance : InstanceRows) (now new : List Leg) (leg : Leg) → now ≡ new ++ leg ∷ [] → rows_of_legs instance now ≡ rows_of_legs instance new + length (rows_at instance leg.table)
+pub rows_popped : (instance : InstanceRows) (now new : List Leg) (leg : Leg) → now ≡ new ++ leg ∷ [] → rows_of_legs instance now
+    ≡ rows_of_legs instance new + length (rows_at instance leg.table)
 rows_popped instance now new leg is =
     let f = λ (leg : Leg). length (rows_at instance leg.table) in
     let whole = sum_total f (new ++ leg ∷ []) in

@@ -62,18 +62,23 @@ module _ (catalog : Catalog) (instance : InstanceRows) where
   -- the reads of a select, as partial tuples and what is behind the full ones
   select_most : (select : Select) (outer : Tuple) → select_reads catalog instance select outer
       ≡ partials catalog instance outer (conditions_in select.from select.conjuncts) [] select.from
-      + total_behind catalog instance outer (if_kept catalog instance outer (conditions_in select.from select.conjuncts) (inner_reads catalog instance select.conjuncts)) [] select.from
+      + total_behind catalog instance outer
+      (if_kept catalog instance outer (conditions_in select.from select.conjuncts) (inner_reads catalog instance select.conjuncts)) [] select.from
   select_most select outer =
       let conditions = conditions_in select.from select.conjuncts in
       let shares = map (share_of catalog instance) select.conjuncts in
       ap (λ f. f outer) (select_reads_are catalog instance select)
       ∙ ap (λ (plains : List (Expr ColumnLeaf)). length (partial_tuples catalog instance (all_members select.from ++ plains) select.from outer)
-      + sum (map (λ tuple. sum (map (λ (s : Share). s.reads tuple) shares)) (kept_tuples catalog instance (all_members select.from ++ plains) select.from outer))) (plains_of_shares select.conjuncts)
-      ∙ ap (λ n. n + sum (map (λ tuple. sum (map (λ (s : Share). s.reads tuple) shares)) (kept_tuples catalog instance conditions select.from outer))) (partials_all catalog instance outer conditions select.from)
+      + sum (map (λ tuple. sum (map (λ (s : Share). s.reads tuple) shares)) (kept_tuples catalog instance (all_members select.from ++ plains) select.from outer)))
+      (plains_of_shares select.conjuncts)
+      ∙ ap (λ n. n + sum (map (λ tuple. sum (map (λ (s : Share). s.reads tuple) shares)) (kept_tuples catalog instance conditions select.from outer)))
+      (partials_all catalog instance outer conditions select.from)
       ∙ ap (λ (l : List ℕ). partials catalog instance outer conditions [] select.from + sum l) (same_reads (kept_tuples catalog instance conditions select.from outer))
-      ∙ ap (λ n. partials catalog instance outer conditions [] select.from + n) (kept_all catalog instance outer conditions (inner_reads catalog instance select.conjuncts) select.from)
+      ∙ ap (λ n. partials catalog instance outer conditions [] select.from + n)
+      (kept_all catalog instance outer conditions (inner_reads catalog instance select.conjuncts) select.from)
     where
-      same_reads : (tuples : List Tuple) → map (λ tuple. sum (map (λ (s : Share). s.reads tuple) (map (share_of catalog instance) select.conjuncts))) tuples ≡ map (inner_reads catalog instance select.conjuncts) tuples
+      same_reads : (tuples : List Tuple) → map (λ tuple. sum (map (λ (s : Share). s.reads tuple) (map (share_of catalog instance) select.conjuncts))) tuples
+          ≡ map (inner_reads catalog instance select.conjuncts) tuples
       same_reads [] = refl
       same_reads (t ∷ ts) =
           ap (λ n. n ∷ map (λ tuple. sum (map (λ (s : Share). s.reads tuple) (map (share_of catalog instance) select.conjuncts))) ts) (reads_of_shares select.conjuncts t)
@@ -85,7 +90,8 @@ first_kept : (s : Stack) (first : List Condition) → AllByRecursion (λ (c : Co
 first_kept s [] h k = tt
 first_kept s (c ∷ cs) h k = let two = and_parts (is_kept s c.expr) (all_kept cs s) k in ((two.0, h.0), first_kept s cs h.1 two.1)
 
-pub joins_within : (catalog : Catalog) (instance : InstanceRows) → MeetsTypes catalog instance → (select : Select) (outer reach : List Reached) → select_is_sound catalog select (items_in (placed outer)) ≡ true
+pub joins_within : (catalog : Catalog) (instance : InstanceRows) → MeetsTypes catalog instance → (select : Select) (outer reach : List Reached)
+    → select_is_sound catalog select (items_in (placed outer)) ≡ true
     → AreBelow (length outer) (placed outer) → placed reach ≡ reach_under select.from (placed outer)
     → (sorted : Sorted) (end joined stage : Stage) → stage ≡ v.Keep sorted.first joined
     → ((s : Stack) → length s ≡ length outer → visits instance joined s ≡ chain_visits instance sorted.legs.items (visits instance end) s)
@@ -101,8 +107,10 @@ joins_within catalog instance meets select outer reach sound below same sorted e
     subst (λ n. n ≤ select_reads catalog instance select (tuple_of o s)) (sym (visits-Keep instance s stage sorted.first joined is))
     (subst (λ n. cond (all_kept sorted.first s) (visits instance joined s) 0 ≤ n) (sym (select_most catalog instance select (tuple_of o s)))
     (if_first (all_kept sorted.first s) (visits instance joined s) _ (λ first_true.
-    subst (λ n. n ≤ most catalog instance meets select.from conditions o (tuple_of o s) typed parts.differ (placed_below) parts.conditions (visits instance end) (inner_reads catalog instance select.conjuncts) (ends_there) [] select.from) (sym (join s long_outer))
-    (chain_bounded catalog instance meets select.from conditions o (tuple_of o s) typed parts.differ placed_below parts.conditions (visits instance end) (inner_reads catalog instance select.conjuncts) ends_there
+    subst (λ n. n ≤ most catalog instance meets select.from conditions o (tuple_of o s) typed parts.differ (placed_below) parts.conditions (visits instance end)
+    (inner_reads catalog instance select.conjuncts) (ends_there) [] select.from) (sym (join s long_outer))
+    (chain_bounded catalog instance meets select.from conditions o (tuple_of o s) typed parts.differ placed_below parts.conditions (visits instance end)
+    (inner_reads catalog instance select.conjuncts) ends_there
     select.from [] sorted.legs.items sorted.first s refl (legs_rows catalog instance sorted.legs.items select.from tables)
     (record { long = omega (arith, long); around_is = refl; typed = tt })
     (subst (λ n. n + length sorted.legs.items < 2 ^ 64 - 1) (sym long_outer) small)
@@ -121,10 +129,12 @@ joins_within catalog instance meets select outer reach sound below same sorted e
     if_first false n m h = omega arith
 
 -- the tables of the legs are those of the items
-pub legs_read : (catalog : Catalog) (instance : InstanceRows) (legs : List Leg) (items : List FromItem) → leg_tables legs ≡ map (table_place_of catalog) items → rows_of_legs instance legs ≡ rows_in catalog instance (item_tables items)
+pub legs_read : (catalog : Catalog) (instance : InstanceRows) (legs : List Leg) (items : List FromItem) → leg_tables legs ≡ map (table_place_of catalog) items
+    → rows_of_legs instance legs ≡ rows_in catalog instance (item_tables items)
 legs_read catalog instance legs items e =
     ap sum (sym (map_map (λ n. length (rows_at instance n)) (λ (leg : Leg). leg.table) legs) ∙ ap (map (λ n. length (rows_at instance n))) e
-    ∙ map_map (λ n. length (rows_at instance n)) (table_place_of catalog) items ∙ sym (map_map (λ table. length (rows_of catalog instance table)) (λ (item : FromItem). item.table) items))
+    ∙ map_map (λ n. length (rows_at instance n)) (table_place_of catalog) items
+    ∙ sym (map_map (λ table. length (rows_of catalog instance table)) (λ (item : FromItem). item.table) items))
 
 -- ---- the end
 
@@ -135,21 +145,24 @@ module _ (catalog : Catalog) (instance : InstanceRows) (reach : List Placed) whe
       let f = λ (c : Conjunct). (share_of catalog instance c).reads tuple in
       let front = sum_total f (take i all) in
       let split = total_append f (take i all) (get_or all i x ∷ []) in
-      let whole : inner_reads catalog instance (take (i + 1) all) tuple ≡ total f (take i all ++ get_or all i x ∷ []) = ap (λ l. sum (map f l)) (take_more all i x h) ∙ sum_total f (take i all ++ get_or all i x ∷ []) in
+      let whole : inner_reads catalog instance (take (i + 1) all) tuple ≡ total f (take i all ++ get_or all i x ∷ []) = ap (λ l. sum (map f l)) (take_more all i x h)
+      ∙ sum_total f (take i all ++ get_or all i x ∷ []) in
       let same : f x ≡ f (get_or all i x) = ap f is in
       omega (arith, front, split, whole, same)
 
   pub within_none : (stage : Stage) → stage ≡ v.Done → IsEndWithin catalog instance [] reach stage
   within_none stage is = λ s long typed. let none = visits-Done instance s stage is in omega (arith, none)
 
-  pub within_plain : (all : List Conjunct) (i : ℕ) (x : Conjunct) (stage : Stage) → i < length all → x ≡ get_or all i x → IsEndWithin catalog instance (take i all) reach stage → IsEndWithin catalog instance (take (i + 1) all) reach stage
+  pub within_plain : (all : List Conjunct) (i : ℕ) (x : Conjunct) (stage : Stage) → i < length all → x ≡ get_or all i x → IsEndWithin catalog instance (take i all) reach stage
+      → IsEndWithin catalog instance (take (i + 1) all) reach stage
   within_plain all i x stage h is each = λ s long typed.
       let least = each s long typed in
       let more = reads_more all i x h is (tuple_of reach s) in
       omega (arith, least, more)
 
   pub within_absent : (all : List Conjunct) (i : ℕ) (x : Conjunct) (select : Select) (inner end stage : Stage) → i < length all → x ≡ get_or all i x → x ≡ cv.NotExists select
-      → stage ≡ v.Absent inner end → IsWithin catalog instance select reach inner → IsEndWithin catalog instance (take i all) reach end → IsEndWithin catalog instance (take (i + 1) all) reach stage
+      → stage ≡ v.Absent inner end → IsWithin catalog instance select reach inner → IsEndWithin catalog instance (take i all) reach end
+      → IsEndWithin catalog instance (take (i + 1) all) reach stage
   within_absent all i x select inner end stage h is not_exists made within each = λ s long typed.
       let first = within s long typed in
       let second = each s long typed in
@@ -165,7 +178,8 @@ module _ (catalog : Catalog) (instance : InstanceRows) (reach : List Placed) whe
 abbrev pub tables_of_conjunct : Conjunct → List (List ℕ)
 tables_of_conjunct conjunct = inner_tables (conjunct ∷ [])
 
-rows_append : (catalog : Catalog) (instance : InstanceRows) (xs ys : List (List ℕ)) → rows_in catalog instance (xs ++ ys) ≡ rows_in catalog instance xs + rows_in catalog instance ys
+rows_append : (catalog : Catalog) (instance : InstanceRows) (xs ys : List (List ℕ)) → rows_in catalog instance (xs ++ ys)
+    ≡ rows_in catalog instance xs + rows_in catalog instance ys
 rows_append catalog instance xs ys =
     let f = λ (table : List ℕ). length (rows_of catalog instance table) in
     let whole = sum_total f (xs ++ ys) in
@@ -175,7 +189,8 @@ rows_append catalog instance xs ys =
     omega (arith, whole, split, one, two)
 
 -- the tables of a select are those of its items and of its inner selects
-pub tables_parts : (catalog : Catalog) (instance : InstanceRows) (select : Select) → rows_in catalog instance (tables_in select) ≡ rows_in catalog instance (item_tables select.from) + rows_in catalog instance (inner_tables select.conjuncts)
+pub tables_parts : (catalog : Catalog) (instance : InstanceRows) (select : Select) → rows_in catalog instance (tables_in select)
+    ≡ rows_in catalog instance (item_tables select.from) + rows_in catalog instance (inner_tables select.conjuncts)
 tables_parts catalog instance select =
     ap (rows_in catalog instance) (at_select (List (List ℕ)) (List (List ℕ)) table_step tables_step select ∙ ap (λ l. item_tables select.from ++ l) (flat_mapped select.conjuncts))
     ∙ rows_append catalog instance (item_tables select.from) (inner_tables select.conjuncts)
@@ -197,7 +212,8 @@ tables_absent x select is =
     ap tables_of_conjunct is ∙ append-nil _ ∙ at_not_exists (List (List ℕ)) (List (List ℕ)) table_step tables_step select
 
 -- the first conjuncts have no more tables than all
-pub tables_front : (catalog : Catalog) (instance : InstanceRows) (all : List Conjunct) (n : ℕ) → rows_in catalog instance (inner_tables (take n all)) ≤ rows_in catalog instance (inner_tables all)
+pub tables_front : (catalog : Catalog) (instance : InstanceRows) (all : List Conjunct) (n : ℕ)
+    → rows_in catalog instance (inner_tables (take n all)) ≤ rows_in catalog instance (inner_tables all)
 tables_front catalog instance [] zero = omega arith
 tables_front catalog instance [] (suc n) = omega arith
 tables_front catalog instance (x ∷ all) zero = omega arith

@@ -53,12 +53,15 @@ module _ (instance : InstanceRows) (s : Stack) where
   pub found_joined : (e at rest : Stage) (access : Access) → e ≡ v.Join access rest → at ≡ rest → found_on (found instance at) s (rows_given instance access s) ≡ found instance e s
   found_joined e at rest access is same = ap (λ x. found_on (found instance x) s (rows_given instance access s)) same ∙ sym (found-Join instance s e access rest is)
 
-  pub visits_joined : (e at rest : Stage) (access : Access) → e ≡ v.Join access rest → at ≡ rest → visits_on (visits instance at) s (rows_given instance access s) ≡ visits instance e s
+  pub visits_joined : (e at rest : Stage) (access : Access) → e ≡ v.Join access rest → at ≡ rest → visits_on (visits instance at) s (rows_given instance access s)
+      ≡ visits instance e s
   visits_joined e at rest access is same = ap (λ x. visits_on (visits instance x) s (rows_given instance access s)) same ∙ sym (visits-Join instance s e access rest is)
 
-  pub found_absent : (e at rest first inner : Stage) → e ≡ v.Absent inner rest → first ≡ inner → at ≡ rest → true ≡ has_none (found instance first s) → found instance at s ≡ found instance e s
+  pub found_absent : (e at rest first inner : Stage) → e ≡ v.Absent inner rest → first ≡ inner → at ≡ rest → true ≡ has_none (found instance first s) → found instance at s
+      ≡ found instance e s
   found_absent e at rest first inner is one same h =
-      ap (λ x. found instance x s) same ∙ ap (λ b. cond b (found instance rest s) []) (h ∙ ap (λ x. has_none (found instance x s)) one) ∙ sym (found-Absent instance s e inner rest is)
+      ap (λ x. found instance x s) same ∙ ap (λ b. cond b (found instance rest s) []) (h ∙ ap (λ x. has_none (found instance x s)) one)
+      ∙ sym (found-Absent instance s e inner rest is)
 
 -- ---- what is put out
 
@@ -79,7 +82,8 @@ module _ (outputs : List Output) (limit : ℕ) where
       sym (values_long b) ∙ ap length e ∙ length-append (row_values a) (map (output_row outputs) xs)
       ∙ ap (λ n. n + length (map (output_row outputs) xs)) (values_long a) ∙ ap (λ n. length a + n) (outputs_long xs)
 
-  pub further : (a b c : List Row) (xs ys : List Stack) (all : Bool) → Collects outputs limit a b xs true → Collects outputs limit b c ys all → Collects outputs limit a c (xs ++ ys) all
+  pub further : (a b c : List Row) (xs ys : List Stack) (all : Bool) → Collects outputs limit a b xs true → Collects outputs limit b c ys all
+      → Collects outputs limit a c (xs ++ ys) all
   further a b c xs ys true first second = (
     second.0 ∙ ap (λ l. l ++ map (output_row outputs) ys) first.0 ∙ append_assoc (row_values a) (map (output_row outputs) xs) (map (output_row outputs) ys)
         ∙ ap (λ l. row_values a ++ l) (sym (map-append (output_row outputs) xs ys)),
@@ -98,7 +102,8 @@ module _ (instance : InstanceRows) (access : Access) (s : Stack) where
 
   pub among_next : (group : List ℕ) (i : ℕ) → i < length group
       → rows_among instance access s (drop i group)
-      ≡ cond (matches_row access s (get_or table (get_or group i 0) [])) (get_or table (get_or group i 0) [] ∷ rows_among instance access s (drop (i + 1) group)) (rows_among instance access s (drop (i + 1) group))
+      ≡ cond (matches_row access s (get_or table (get_or group i 0) [])) (get_or table (get_or group i 0) [] ∷ rows_among instance access s (drop (i + 1) group))
+      (rows_among instance access s (drop (i + 1) group))
   among_next group i h = ap (rows_among instance access s) (drop_next group i 0 h)
 
 -- ---- one turn of the loop over a group
@@ -120,7 +125,8 @@ module _ (instance : InstanceRows) (access : Access) (s : Stack) (group : List �
     pub turn_taken : matches_row access s row ≡ true → (a b c : List Row) (all : Bool) → Collects outputs limit a b (rest (s ++ row ∷ [])) true
         → Collects outputs limit b c (found_on rest s later) all → Collects outputs limit a c (found_on rest s (rows_among instance access s (drop i group))) all
     turn_taken m a b c all first second =
-        subst (λ rows. Collects outputs limit a c (found_on rest s rows) all) (sym (taken m)) (further outputs limit a b c (rest (s ++ row ∷ [])) (found_on rest s later) all first second)
+        subst (λ rows. Collects outputs limit a c (found_on rest s rows) all) (sym (taken m))
+        (further outputs limit a b c (rest (s ++ row ∷ [])) (found_on rest s later) all first second)
 
     pub turn_over : matches_row access s row ≡ true → (a b : List Row) → Collects outputs limit a b (rest (s ++ row ∷ [])) false
         → Collects outputs limit a b (found_on rest s (rows_among instance access s (drop i group))) false
@@ -143,7 +149,8 @@ pub seen : (access : Access) (t s : Stack) (lent table : TableRows) (place : ℕ
 seen access t s lent table place b c same rows is known =
     ap (λ x. matches_row access x (get_or table place [])) (sym same) ∙ ap (λ r. matches_row access t (get_or r place [])) (sym rows) ∙ sym is ∙ known
 
-pub steps_taken : (new at start before one behind whole : ℕ) → before ≡ one + behind → new ≤ at + one → at + before ≤ start + whole → (new ≤ start + whole) × (new + behind ≤ start + whole)
+pub steps_taken : (new at start before one behind whole : ℕ) → before ≡ one + behind → new ≤ at + one → at + before ≤ start + whole
+    → (new ≤ start + whole) × (new + behind ≤ start + whole)
 steps_taken new at start before one behind whole e h k = (omega arith, omega arith)
 
 pub some_copied : {X : Type 0} (o : Option (Bor X)) (b : Bor X) (x : X) (found : Option X) → option_copied o ≡ found → found ≡ Some x → o ≡ Some b → b.now ≡ x
@@ -210,7 +217,8 @@ module _ (s : Stack) (row : RowValues) where
           → ((other : FoldHasher) → code_from other (map (λ (t : Tied). slot_value s t.other) ts) ≡ None → ties ts ≡ false)
           → (agree (column_value row t.own) (slot_value s t.other) && ties ts) ≡ false
       go true e k behind = ap (λ b. b && ties ts) (null_apart (column_value row t.own) (slot_value s t.other) e)
-      go false e k behind = ap (λ b. agree (column_value row t.own) (slot_value s t.other) && b) (behind (fold folding.write hasher (writes (slot_value s t.other))) k) ∙ and_no (agree (column_value row t.own) (slot_value s t.other))
+      go false e k behind = ap (λ b. agree (column_value row t.own) (slot_value s t.other) && b) (behind (fold folding.write hasher (writes (slot_value s t.other))) k)
+          ∙ and_no (agree (column_value row t.own) (slot_value s t.other))
 
 pub given_of_group : (instance : InstanceRows) (access : Access) (s : Stack) (index : Index) (code : ℕ)
     → IsIndexOf access.tied (rows_at instance access.table) index → stack_code access.tied s ≡ Some code
@@ -219,7 +227,9 @@ given_of_group instance access s index code right is =
     let table = rows_at instance access.table in
     let has = λ (row : RowValues). is_code code (row_code access.tied row) in
     let wider : (row : RowValues) → matches_row access s row ≡ true → has row ≡ true =
-    λ row h. ap (is_code code) (codes_equal s row access.tied (and_parts (ties s row access.tied) (list_all (λ (p : Pair). agree (column_value row p.left) (column_value row p.right)) access.pairs) h).0 ∙ is) ∙ eq-eqb code code refl in
+    λ row h. ap (is_code code) (codes_equal s row access.tied
+    (and_parts (ties s row access.tied) (list_all (λ (p : Pair). agree (column_value row p.left) (column_value row p.right)) access.pairs) h).0 ∙ is)
+    ∙ eq-eqb code code refl in
     ap (rows_among instance access s) (right.groups code)
     ∙ ap (filter (matches_row access s)) (rows_at_places has table [] table refl)
     ∙ filter_within (matches_row access s) has wider table
@@ -234,4 +244,6 @@ group_below instance access index code right j h =
 
 pub none_given : (instance : InstanceRows) (access : Access) (s : Stack) → stack_code access.tied s ≡ None → rows_given instance access s ≡ []
 none_given instance access s is =
-    filter_nothing (matches_row access s) (λ row. ap (λ b. b && list_all (λ (p : Pair). agree (column_value row p.left) (column_value row p.right)) access.pairs) (no_ties s row folding.initial access.tied is)) (rows_at instance access.table)
+    filter_nothing (matches_row access s)
+    (λ row. ap (λ b. b && list_all (λ (p : Pair). agree (column_value row p.left) (column_value row p.right)) access.pairs) (no_ties s row folding.initial access.tied is))
+    (rows_at instance access.table)

@@ -44,7 +44,8 @@ module _ (catalog : Catalog) (stack : Stack) where
   resolved (r ∷ reach) leaf = go (bytes_eq r.item.alias leaf.alias) (resolved reach leaf)
     where
       go : (b : Bool) → value_in (slot_value stack) (leaf_expr_of catalog reach leaf) ≡ fitted leaf.class (leaf_value catalog (tuple_of reach stack) leaf)
-          → value_in (slot_value stack) (leaf_at_slot leaf (cond b (Some (record { item = r.place; column = column_place catalog r.item.table leaf.column; class = leaf.class })) (slot_in_reach catalog reach leaf)))
+          → value_in (slot_value stack) (leaf_at_slot leaf
+          (cond b (Some (record { item = r.place; column = column_place catalog r.item.table leaf.column; class = leaf.class })) (slot_in_reach catalog reach leaf)))
           ≡ fitted leaf.class (cond b (value_at (get_or stack r.place []) (column_place catalog r.item.table leaf.column)) (leaf_value catalog (tuple_of reach stack) leaf))
       go true h = (values (slot_value stack)).leaf (record { item = r.place; column = column_place catalog r.item.table leaf.column; class = leaf.class })
       go false h = h
@@ -53,7 +54,8 @@ module _ (catalog : Catalog) (stack : Stack) where
   pub resolved_value : (reach : List Placed) (e : Expr ColumnLeaf) → EachLeaf (λ l. IsOf l.class (leaf_value catalog (tuple_of reach stack) l)) e
       → value_in (slot_value stack) (mapped (leaf_expr_of catalog reach) e) ≡ value_in (leaf_value catalog (tuple_of reach stack)) e
   resolved_value reach e typed =
-      mapped_value (leaf_expr_of catalog reach) (slot_value stack) (λ l. fitted l.class (leaf_value catalog (tuple_of reach stack) l)) e (each_from_all _ (resolved reach) (leaves_in e))
+      mapped_value (leaf_expr_of catalog reach) (slot_value stack) (λ l. fitted l.class (leaf_value catalog (tuple_of reach stack) l)) e
+      (each_from_all _ (resolved reach) (leaves_in e))
       ∙ same_values (λ l. fitted l.class (leaf_value catalog (tuple_of reach stack) l)) (leaf_value catalog (tuple_of reach stack)) e (each_same (leaves_in e) typed)
     where
       each_same : (ls : List ColumnLeaf) → AllByRecursion (λ l. IsOf l.class (leaf_value catalog (tuple_of reach stack) l)) ls

@@ -33,11 +33,14 @@ module _ (catalog : Catalog) (instance : InstanceRows) where
       omega (arith, a, b, c, d, e, h, later)
 
   pub selects_next : (all : List Select) (i : ℕ) (select : Select) → i < length all → select ≡ get_or all i select
-      → selects_bound catalog instance (take (i + 1) all) ≡ selects_bound catalog instance (take i all) + (rows_in catalog instance (tables_in select) + select_reads catalog instance select [])
+      → selects_bound catalog instance (take (i + 1) all)
+      ≡ selects_bound catalog instance (take i all) + (rows_in catalog instance (tables_in select) + select_reads catalog instance select [])
   selects_next all i select h is =
       let whole = as_total (take (i + 1) all) in
       let front = as_total (take i all) in
-      let split : total one_bound (take (i + 1) all) ≡ total one_bound (take i all) + total one_bound (get_or all i select ∷ []) = ap (total one_bound) (take_more all i select h) ∙ total_append one_bound (take i all) (get_or all i select ∷ []) in
+      let split : total one_bound (take (i + 1) all)
+      ≡ total one_bound (take i all) + total one_bound (get_or all i select ∷ []) = ap (total one_bound) (take_more all i select h)
+      ∙ total_append one_bound (take i all) (get_or all i select ∷ []) in
       let same = ap one_bound is in
       omega (arith, whole, front, split, same)
 

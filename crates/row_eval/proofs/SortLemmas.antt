@@ -50,7 +50,8 @@ module _ (d : ℕ) where
       let others = each es p.1 in
       omega (arith, one, others)
 
-  layer : (y : Expr-F Slot ((e : Expr Slot) × IsDecided e)) → AllByRecursion Under (leaves_step (map-Expr Slot (Expr Slot) (List Slot) leaves_in (map-Expr Slot ((e : Expr Slot) × IsDecided e) (Expr Slot) bare y)))
+  layer : (y : Expr-F Slot ((e : Expr Slot) × IsDecided e))
+      → AllByRecursion Under (leaves_step (map-Expr Slot (Expr Slot) (List Slot) leaves_in (map-Expr Slot ((e : Expr Slot) × IsDecided e) (Expr Slot) bare y)))
       → level_step (map-Expr Slot (Expr Slot) ℕ level_in (map-Expr Slot ((e : Expr Slot) × IsDecided e) (Expr Slot) bare y)) ≤ d
   layer (Expr-F.Lit v) h = omega arith
   layer (Expr-F.Null c) h = omega arith
@@ -80,20 +81,26 @@ module _ (d : ℕ) where
 
   level_under : (e : Expr Slot) → IsDecided e
   level_under = ind-Expr Slot IsDecided (λ x y is h.
-      let here : AllByRecursion Under (leaves_step (map-Expr Slot (Expr Slot) (List Slot) leaves_in x)) = subst (AllByRecursion Under) (fold-roll-Expr Slot (List Slot) leaves_step x) h in
+      let here : AllByRecursion Under (leaves_step (map-Expr Slot (Expr Slot) (List Slot) leaves_in x)) = subst (AllByRecursion Under)
+      (fold-roll-Expr Slot (List Slot) leaves_step x) h in
       subst (λ n. n ≤ d) (sym (fold-roll-Expr Slot ℕ level_step x))
-      (subst (λ z. AllByRecursion Under (leaves_step (map-Expr Slot (Expr Slot) (List Slot) leaves_in z)) → level_step (map-Expr Slot (Expr Slot) ℕ level_in z) ≤ d) is (layer y) here))
+      (subst (λ z. AllByRecursion Under (leaves_step (map-Expr Slot (Expr Slot) (List Slot) leaves_in z)) → level_step (map-Expr Slot (Expr Slot) ℕ level_in z) ≤ d) is
+      (layer y) here))
 
   slots_under : (catalog : Catalog) (reach : List Placed) → AreBelow d reach → (leaf : ColumnLeaf) → AllByRecursion Under (leaves_in (leaf_expr_of catalog reach leaf))
   slots_under catalog [] h leaf = subst (AllByRecursion Under) (sym ((leaves {L = Slot}).null leaf.class)) tt
   slots_under catalog (r ∷ reach) h leaf = by (bytes_eq r.item.alias leaf.alias) (slots_under catalog reach h.1 leaf)
     where
       by : (b : Bool) → AllByRecursion Under (leaves_in (leaf_expr_of catalog reach leaf))
-          → AllByRecursion Under (leaves_in (leaf_at_slot leaf (cond b (Some (record { item = r.place; column = column_place catalog r.item.table leaf.column; class = leaf.class })) (slot_in_reach catalog reach leaf))))
-      by true k = subst (AllByRecursion Under) (sym ((leaves {L = Slot}).leaf (record { item = r.place; column = column_place catalog r.item.table leaf.column; class = leaf.class }))) (h.0, tt)
+          → AllByRecursion Under (leaves_in
+          (leaf_at_slot leaf (cond b (Some (record { item = r.place; column = column_place catalog r.item.table leaf.column; class = leaf.class }))
+          (slot_in_reach catalog reach leaf))))
+      by true k = subst (AllByRecursion Under)
+          (sym ((leaves {L = Slot}).leaf (record { item = r.place; column = column_place catalog r.item.table leaf.column; class = leaf.class }))) (h.0, tt)
       by false k = k
 
-  all_under : (catalog : Catalog) (reach : List Placed) → AreBelow d reach → (ls : List ColumnLeaf) → AllByRecursion Under (flat_map (λ l. leaves_in (leaf_expr_of catalog reach l)) ls)
+  all_under : (catalog : Catalog) (reach : List Placed) → AreBelow d reach → (ls : List ColumnLeaf)
+      → AllByRecursion Under (flat_map (λ l. leaves_in (leaf_expr_of catalog reach l)) ls)
   all_under catalog reach h [] = tt
   all_under catalog reach h (l ∷ ls) = both (leaves_in (leaf_expr_of catalog reach l)) (slots_under catalog reach h l) (all_under catalog reach h ls)
     where
@@ -105,7 +112,8 @@ module _ (d : ℕ) where
   -- a resolved expression is decided by the rows in reach
   pub resolved_level : (catalog : Catalog) (reach : List Placed) → AreBelow d reach → (e : Expr ColumnLeaf) → level_in (mapped (leaf_expr_of catalog reach) e) ≤ d
   resolved_level catalog reach h e =
-      level_under (mapped (leaf_expr_of catalog reach) e) (subst (AllByRecursion Under) (sym (mapped_leaves (leaf_expr_of catalog reach) e)) (all_under catalog reach h (leaves_in e)))
+      level_under (mapped (leaf_expr_of catalog reach) e)
+      (subst (AllByRecursion Under) (sym (mapped_leaves (leaf_expr_of catalog reach) e)) (all_under catalog reach h (leaves_in e)))
 
 -- ---- a condition that is put in
 
@@ -128,12 +136,14 @@ all_more P [] x h k = (k, tt)
 all_more P (y ∷ xs) x h k = (h.0, all_more P xs x h.1 k)
 
 -- before the legs
-pub first_more : (test : Expr Slot → Bool) (first : List Condition) (legs : List Leg) (c : Condition) → all_pass test (first ++ c ∷ []) legs ≡ (all_pass test first legs && test c.expr)
+pub first_more : (test : Expr Slot → Bool) (first : List Condition) (legs : List Leg) (c : Condition) → all_pass test (first ++ c ∷ []) legs
+    ≡ (all_pass test first legs && test c.expr)
 first_more test first legs c =
     ap (λ b. b && list_all (λ (leg : Leg). each_passes test leg.tests) legs) (each_more test first c)
     ∙ and_front (each_passes test first) (test c.expr) (list_all (λ (leg : Leg). each_passes test leg.tests) legs)
 
-pub first_sorted : (depth : ℕ) (first : List Condition) (legs : List Leg) (c : Condition) → IsSorted depth first legs → level_in c.expr ≤ depth → IsSorted depth (first ++ c ∷ []) legs
+pub first_sorted : (depth : ℕ) (first : List Condition) (legs : List Leg) (c : Condition) → IsSorted depth first legs → level_in c.expr ≤ depth
+    → IsSorted depth (first ++ c ∷ []) legs
 first_sorted depth first legs c sorted h = record { first = all_more (λ (c : Condition). level_in c.expr ≤ depth) first c sorted.first h; legs = sorted.legs }
 
 -- at a leg
@@ -152,9 +162,11 @@ module _ (leg new : Leg) (c : Condition) (more : new.tests ≡ leg.tests ++ c �
   pub leg_more : (test : Expr Slot → Bool) (first : List Condition) (legs : List Leg) (i : ℕ) → i < length legs → leg ≡ get_or legs i leg
       → all_pass test first (set legs i new) ≡ (all_pass test first legs && test c.expr)
   leg_more test first legs i h is =
-      ap (λ b. each_passes test first && b) (legs_more test legs i h is) ∙ and_next (each_passes test first) (list_all (λ (leg : Leg). each_passes test leg.tests) legs) (test c.expr)
+      ap (λ b. each_passes test first && b) (legs_more test legs i h is)
+      ∙ and_next (each_passes test first) (list_all (λ (leg : Leg). each_passes test leg.tests) legs) (test c.expr)
 
-  legs_sorted : (depth : ℕ) (legs : List Leg) (i : ℕ) → i < length legs → leg ≡ get_or legs i leg → level_in c.expr ≡ depth + (i + 1) → AreDecidedAt depth legs → AreDecidedAt depth (set legs i new)
+  legs_sorted : (depth : ℕ) (legs : List Leg) (i : ℕ) → i < length legs → leg ≡ get_or legs i leg → level_in c.expr ≡ depth + (i + 1) → AreDecidedAt depth legs
+      → AreDecidedAt depth (set legs i new)
   legs_sorted depth [] i h is level sorted = absurd (omega arith)
   legs_sorted depth (x ∷ legs) zero h is level sorted = (
     subst (λ tests. AllByRecursion (λ (c : Condition). level_in c.expr ≡ suc depth) tests) (sym (more ∙ ap (λ (l : Leg). l.tests ++ c ∷ []) is))
@@ -163,7 +175,8 @@ module _ (leg new : Leg) (c : Condition) (more : new.tests ≡ leg.tests ++ c �
   )
   legs_sorted depth (x ∷ legs) (suc i) h is level sorted = (sorted.0, legs_sorted (suc depth) legs i (omega arith) is (omega (arith, level)) sorted.1)
 
-  pub leg_sorted : (depth : ℕ) (first : List Condition) (legs : List Leg) (i : ℕ) → i < length legs → leg ≡ get_or legs i leg → level_in c.expr ≡ depth + (i + 1) → IsSorted depth first legs
+  pub leg_sorted : (depth : ℕ) (first : List Condition) (legs : List Leg) (i : ℕ) → i < length legs → leg ≡ get_or legs i leg → level_in c.expr ≡ depth + (i + 1)
+      → IsSorted depth first legs
       → IsSorted depth first (set legs i new)
   leg_sorted depth first legs i h is level sorted = record { first = sorted.first; legs = legs_sorted depth legs i h is level sorted.legs }
 
@@ -182,7 +195,8 @@ module _ (catalog : Catalog) (reach : List Placed) (depth : ℕ) where
   pub adds_none : (old : Sorted) → IsSorted depth old.first old.legs.items → Adds catalog reach depth [] old old
   adds_none old sorted = record { all = λ test. and_true (all_pass test old.first old.legs.items); sorted = sorted; tables = refl }
 
-  pub adds_one : (e : Expr ColumnLeaf) (old new : Sorted) (made : Expr Slot) → made ≡ mapped (leaf_expr_of catalog reach) e → AddsTest made old new → IsSorted depth new.first new.legs.items
+  pub adds_one : (e : Expr ColumnLeaf) (old new : Sorted) (made : Expr Slot) → made ≡ mapped (leaf_expr_of catalog reach) e → AddsTest made old new
+      → IsSorted depth new.first new.legs.items
       → leg_tables new.legs.items ≡ leg_tables old.legs.items → Adds catalog reach depth (e ∷ []) old new
   adds_one e old new made is all sorted tables = record {
     all = λ test. all test ∙ ap (λ x. all_pass test old.first old.legs.items && test x) is
@@ -191,7 +205,8 @@ module _ (catalog : Catalog) (reach : List Placed) (depth : ℕ) where
     tables = tables;
   }
 
-  pub adds_more : (xs ys : List (Expr ColumnLeaf)) (old now new : Sorted) → Adds catalog reach depth xs old now → Adds catalog reach depth ys now new → Adds catalog reach depth (xs ++ ys) old new
+  pub adds_more : (xs ys : List (Expr ColumnLeaf)) (old now new : Sorted) → Adds catalog reach depth xs old now → Adds catalog reach depth ys now new
+      → Adds catalog reach depth (xs ++ ys) old new
   adds_more xs ys old now new first second = record {
     all = λ test.
         let p = λ (e : Expr ColumnLeaf). test (mapped (leaf_expr_of catalog reach) e) in
@@ -251,14 +266,16 @@ module _ (catalog : Catalog) where
   bare_tables [] = refl
   bare_tables (item ∷ items) = ap (λ l. table_place_of catalog item ∷ l) (bare_tables items)
 
-  pub all_sorted : (reach : List Placed) (depth : ℕ) (items : List FromItem) (xs ys : List (Expr ColumnLeaf)) (bare half new : Sorted) → bare.first ≡ [] → bare.legs.items ≡ map (bare_leg catalog) items
+  pub all_sorted : (reach : List Placed) (depth : ℕ) (items : List FromItem) (xs ys : List (Expr ColumnLeaf)) (bare half new : Sorted) → bare.first ≡ [] → bare.legs.items
+      ≡ map (bare_leg catalog) items
       → Adds catalog reach depth xs bare half → Adds catalog reach depth ys half new → SortsAll catalog reach (xs ++ ys) new
   all_sorted reach depth items xs ys bare half new none legs first second = λ test.
       (adds_more catalog reach depth xs ys bare half new first second).all test
       ∙ ap (λ b. b && list_all (λ e. test (mapped (leaf_expr_of catalog reach) e)) (xs ++ ys))
       (ap (λ l. all_pass test l bare.legs.items) none ∙ ap (all_pass test []) legs ∙ bare_passes test items)
 
-  pub sorted_tables : (reach : List Placed) (depth : ℕ) (items : List FromItem) (xs ys : List (Expr ColumnLeaf)) (bare half new : Sorted) → bare.legs.items ≡ map (bare_leg catalog) items
+  pub sorted_tables : (reach : List Placed) (depth : ℕ) (items : List FromItem) (xs ys : List (Expr ColumnLeaf)) (bare half new : Sorted) → bare.legs.items
+      ≡ map (bare_leg catalog) items
       → Adds catalog reach depth xs bare half → Adds catalog reach depth ys half new → leg_tables new.legs.items ≡ map (table_place_of catalog) items
   sorted_tables reach depth items xs ys bare half new legs first second = second.tables ∙ first.tables ∙ ap leg_tables legs ∙ bare_tables items
 

@@ -44,7 +44,8 @@ module _ {R C : Type 0} (holds : List R → C → Bool) where
   filter_append p [] ys = refl
   filter_append p (x ∷ xs) ys = go (p x) (filter_append p xs ys)
     where
-      go : (b : Bool) → filter p (xs ++ ys) ≡ filter p xs ++ filter p ys → cond b (x ∷ filter p (xs ++ ys)) (filter p (xs ++ ys)) ≡ cond b (x ∷ filter p xs) (filter p xs) ++ filter p ys
+      go : (b : Bool) → filter p (xs ++ ys) ≡ filter p xs ++ filter p ys → cond b (x ∷ filter p (xs ++ ys)) (filter p (xs ++ ys))
+          ≡ cond b (x ∷ filter p xs) (filter p xs) ++ filter p ys
       go true h = ap (λ l. x ∷ l) h
       go false h = h
 
@@ -97,11 +98,13 @@ module _ {R C : Type 0} (holds : List R → C → Bool) where
     all_rows [] = refl
     all_rows (row ∷ rows) =
         let C = choices (tables_of levels) in
-        ap (λ l. cond (kept tests (stack ++ row ∷ [])) l [] ++ flat_map (λ row. cond (kept tests (stack ++ row ∷ [])) (staged levels (stack ++ row ∷ [])) []) rows) (later (stack ++ row ∷ []) (longer stack row))
+        ap (λ l. cond (kept tests (stack ++ row ∷ [])) l [] ++ flat_map (λ row. cond (kept tests (stack ++ row ∷ [])) (staged levels (stack ++ row ∷ [])) []) rows)
+        (later (stack ++ row ∷ []) (longer stack row))
         ∙ ap (λ l. l ++ flat_map (λ row. cond (kept tests (stack ++ row ∷ [])) (staged levels (stack ++ row ∷ [])) []) rows)
         (one_row tests (all_tests levels) stack row (λ more. decided (stack ++ row ∷ []) more (longer stack row)) C)
         ∙ ap (λ l. filter (kept (tests ++ all_tests levels)) (map (λ rest. stack ++ rest) (map (λ rest. row ∷ rest) C)) ++ l) (all_rows rows)
-        ∙ sym (filter_append (kept (tests ++ all_tests levels)) (map (λ rest. stack ++ rest) (map (λ rest. row ∷ rest) C)) (map (λ rest. stack ++ rest) (flat_map (λ row. map (λ rest. row ∷ rest) C) rows)))
+        ∙ sym (filter_append (kept (tests ++ all_tests levels)) (map (λ rest. stack ++ rest) (map (λ rest. row ∷ rest) C))
+        (map (λ rest. stack ++ rest) (flat_map (λ row. map (λ rest. row ∷ rest) C) rows)))
         ∙ ap (filter (kept (tests ++ all_tests levels))) (sym (map_append (λ rest. stack ++ rest) (map (λ rest. row ∷ rest) C) (flat_map (λ row. map (λ rest. row ∷ rest) C) rows)))
 
   -- the loops with their tests give the choices of which each condition is True, in order

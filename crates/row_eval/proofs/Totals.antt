@@ -54,7 +54,8 @@ pub total_filter : {X : Type 0} (f : X → ℕ) (p : X → Bool) (xs : List X) �
 total_filter f p [] = refl
 total_filter {X} f p (x ∷ xs) = by (p x) (total_filter f p xs)
   where
-    by : (b : Bool) → total f (filter p xs) ≡ total (λ x. cond (p x) (f x) 0) xs → total f (cond b (x ∷ filter p xs) (filter p xs)) ≡ cond b (f x) 0 + total (λ x. cond (p x) (f x) 0) xs
+    by : (b : Bool) → total f (filter p xs) ≡ total (λ x. cond (p x) (f x) 0) xs → total f (cond b (x ∷ filter p xs) (filter p xs))
+        ≡ cond b (f x) 0 + total (λ x. cond (p x) (f x) 0) xs
     by true h = ap (λ n. f x + n) h
     by false h = h ∙ sym (omega arith)
 

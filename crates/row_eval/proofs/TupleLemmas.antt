@@ -35,26 +35,36 @@ bound_at item row = record { item = item; row = row }
 
 module _ (catalog : Catalog) (instance : InstanceRows) where
   -- the tuples of the items themselves
-  pub own_tuples : (items : List FromItem) (s : Stack) → map (λ rest. tuple_of (own_places (length s) items) (s ++ rest)) (rows_choices (tables_of catalog instance items)) ≡ tuples catalog instance items
+  pub own_tuples : (items : List FromItem) (s : Stack) → map (λ rest. tuple_of (own_places (length s) items) (s ++ rest)) (rows_choices (tables_of catalog instance items))
+      ≡ tuples catalog instance items
   own_tuples [] s = refl
   own_tuples (item ∷ items) s = each (rows_of catalog instance item.table) (λ row. own_tuples items (s ++ row ∷ []))
     where
-      one : (row : RowValues) (rest : Stack) → tuple_of (own_places (length s) (item ∷ items)) (s ++ row ∷ rest) ≡ bound_at item row ∷ tuple_of (own_places (length (s ++ row ∷ [])) items) ((s ++ row ∷ []) ++ rest)
+      one : (row : RowValues) (rest : Stack) → tuple_of (own_places (length s) (item ∷ items)) (s ++ row ∷ rest)
+          ≡ bound_at item row ∷ tuple_of (own_places (length (s ++ row ∷ [])) items) ((s ++ row ∷ []) ++ rest)
       one row rest =
           ap (λ (r : RowValues). bound_at item r ∷ tuple_of (own_places (suc (length s)) items) (s ++ row ∷ rest)) (get_or-append_seam s row rest [])
           ∙ ap (λ (n : ℕ). bound_at item row ∷ tuple_of (own_places n items) (s ++ row ∷ rest)) (sym (stack_longer s row))
           ∙ ap (λ (t : Stack). bound_at item row ∷ tuple_of (own_places (length (s ++ row ∷ [])) items) t) (sym (append_assoc s (row ∷ []) rest))
 
-      each : (rows : TableRows) → ((row : RowValues) → map (λ rest. tuple_of (own_places (length (s ++ row ∷ [])) items) ((s ++ row ∷ []) ++ rest)) (rows_choices (tables_of catalog instance items)) ≡ tuples catalog instance items)
-          → map (λ rest. tuple_of (own_places (length s) (item ∷ items)) (s ++ rest)) (flat_map (λ row. map (λ rest. row ∷ rest) (rows_choices (tables_of catalog instance items))) rows)
+      each : (rows : TableRows) → ((row : RowValues)
+          → map (λ rest. tuple_of (own_places (length (s ++ row ∷ [])) items) ((s ++ row ∷ []) ++ rest)) (rows_choices (tables_of catalog instance items))
+          ≡ tuples catalog instance items)
+          → map (λ rest. tuple_of (own_places (length s) (item ∷ items)) (s ++ rest))
+          (flat_map (λ row. map (λ rest. row ∷ rest) (rows_choices (tables_of catalog instance items))) rows)
           ≡ flat_map (λ row. map (λ rest. bound_at item row ∷ rest) (tuples catalog instance items)) rows
       each [] later = refl
       each (row ∷ rows) later =
-          map-append (λ rest. tuple_of (own_places (length s) (item ∷ items)) (s ++ rest)) (map (λ rest. row ∷ rest) (rows_choices (tables_of catalog instance items))) (flat_map (λ row. map (λ rest. row ∷ rest) (rows_choices (tables_of catalog instance items))) rows)
-          ∙ ap (λ l. l ++ map (λ rest. tuple_of (own_places (length s) (item ∷ items)) (s ++ rest)) (flat_map (λ row. map (λ rest. row ∷ rest) (rows_choices (tables_of catalog instance items))) rows))
+          map-append (λ rest. tuple_of (own_places (length s) (item ∷ items)) (s ++ rest)) (map (λ rest. row ∷ rest) (rows_choices (tables_of catalog instance items)))
+          (flat_map (λ row. map (λ rest. row ∷ rest) (rows_choices (tables_of catalog instance items))) rows)
+          ∙ ap (λ l. l ++ map (λ rest. tuple_of (own_places (length s) (item ∷ items)) (s ++ rest))
+          (flat_map (λ row. map (λ rest. row ∷ rest) (rows_choices (tables_of catalog instance items))) rows))
           (map_map (λ rest. tuple_of (own_places (length s) (item ∷ items)) (s ++ rest)) (λ rest. row ∷ rest) (rows_choices (tables_of catalog instance items))
-          ∙ map_same (λ rest. tuple_of (own_places (length s) (item ∷ items)) (s ++ row ∷ rest)) (λ rest. bound_at item row ∷ tuple_of (own_places (length (s ++ row ∷ [])) items) ((s ++ row ∷ []) ++ rest)) (one row) (rows_choices (tables_of catalog instance items))
-          ∙ sym (map_map (λ (rest : Tuple). bound_at item row ∷ rest) (λ rest. tuple_of (own_places (length (s ++ row ∷ [])) items) ((s ++ row ∷ []) ++ rest)) (rows_choices (tables_of catalog instance items)))
+          ∙ map_same (λ rest. tuple_of (own_places (length s) (item ∷ items)) (s ++ row ∷ rest))
+          (λ rest. bound_at item row ∷ tuple_of (own_places (length (s ++ row ∷ [])) items) ((s ++ row ∷ []) ++ rest)) (one row)
+          (rows_choices (tables_of catalog instance items))
+          ∙ sym (map_map (λ (rest : Tuple). bound_at item row ∷ rest) (λ rest. tuple_of (own_places (length (s ++ row ∷ [])) items) ((s ++ row ∷ []) ++ rest))
+          (rows_choices (tables_of catalog instance items)))
           ∙ ap (map (λ (rest : Tuple). bound_at item row ∷ rest)) (later row))
           ∙ ap (λ l. map (λ (rest : Tuple). bound_at item row ∷ rest) (tuples catalog instance items) ++ l) (each rows later)
 

@@ -86,7 +86,8 @@ table_there name (t ∷ ts) table none e = by (bytes_eq t.name name) e (table_th
     by : (b : Bool) → cond b (Some t) (find (λ (t : Table). bytes_eq t.name name) ts) ≡ Some table
         → (find (λ (t : Table). bytes_eq t.name name) ts ≡ Some table
         → (place_of name (map (λ (t : Table). t.name) ts) < length ts) × (get_or ts (place_of name (map (λ (t : Table). t.name) ts)) none ≡ table))
-        → (cond b 0 (suc (place_of name (map (λ (t : Table). t.name) ts))) < suc (length ts)) × (get_or (t ∷ ts) (cond b 0 (suc (place_of name (map (λ (t : Table). t.name) ts)))) none ≡ table)
+        → (cond b 0 (suc (place_of name (map (λ (t : Table). t.name) ts))) < suc (length ts)) ×
+        (get_or (t ∷ ts) (cond b 0 (suc (place_of name (map (λ (t : Table). t.name) ts)))) none ≡ table)
     by true k later = (omega arith, cc)
     by false k later = let h = later k in (omega (arith, h.0), h.1)
 
@@ -130,13 +131,15 @@ typed_row catalog instance meets item row is_in leaf = by (table_named catalog i
     by None e h = absurd cc
     by (Some table) e h =
         let there = table_there item.table catalog.tables table (record { name = []; columns = []; keys = []; references = [] }) e in
-        of_table leaf table row (subst (λ (t : Table). IsRowOf t.columns row) there.1 (meets.rows (place_of item.table (map (λ (t : Table). t.name) catalog.tables)) there.0 row is_in)) h
+        of_table leaf table row (subst (λ (t : Table). IsRowOf t.columns row) there.1
+        (meets.rows (place_of item.table (map (λ (t : Table). t.name) catalog.tables)) there.0 row is_in)) h
 
 abbrev pub items_of : Tuple → List FromItem
 items_of tuple = map (λ (b : Bound). b.item) tuple
 
 -- a leaf that is sound among the items of a tuple has a value of its class
-pub typed_leaf : (catalog : Catalog) (tuple : Tuple) (leaf : ColumnLeaf) → IsTyped catalog tuple → leaf_is_sound catalog (items_of tuple) leaf ≡ true → IsOf leaf.class (leaf_value catalog tuple leaf)
+pub typed_leaf : (catalog : Catalog) (tuple : Tuple) (leaf : ColumnLeaf) → IsTyped catalog tuple → leaf_is_sound catalog (items_of tuple) leaf ≡ true
+    → IsOf leaf.class (leaf_value catalog tuple leaf)
 typed_leaf catalog [] leaf h k = absurd cc
 typed_leaf catalog (b ∷ rest) leaf h k = by (bytes_eq b.item.alias leaf.alias) k (typed_leaf catalog rest leaf h.1)
   where
@@ -157,9 +160,11 @@ each_with : (catalog : Catalog) (bound : Bound) → IsTypedRow catalog bound.ite
 each_with catalog bound row [] h = tt
 each_with catalog bound row (t ∷ ts) h = ((row, h.0), each_with catalog bound row ts h.1)
 
-pub typed_tuples : (catalog : Catalog) (instance : InstanceRows) → MeetsTypes catalog instance → (items : List FromItem) → AllByRecursion (IsTyped catalog) (tuples catalog instance items)
+pub typed_tuples : (catalog : Catalog) (instance : InstanceRows) → MeetsTypes catalog instance → (items : List FromItem)
+    → AllByRecursion (IsTyped catalog) (tuples catalog instance items)
 typed_tuples catalog instance meets [] = (tt, tt)
-typed_tuples catalog instance meets (item ∷ items) = each (rows_of catalog instance item.table) (λ row h. typed_row catalog instance meets item row h) (typed_tuples catalog instance meets items)
+typed_tuples catalog instance meets (item ∷ items) = each (rows_of catalog instance item.table) (λ row h. typed_row catalog instance meets item row h)
+    (typed_tuples catalog instance meets items)
   where
     each : (rows : TableRows) → ((row : RowValues) → IsIn row rows → IsTypedRow catalog item row) → AllByRecursion (IsTyped catalog) (tuples catalog instance items)
         → AllByRecursion (IsTyped catalog) (flat_map (λ row. map (λ rest. record { item = item; row = row } ∷ rest) (tuples catalog instance items)) rows)
@@ -169,7 +174,8 @@ typed_tuples catalog instance meets (item ∷ items) = each (rows_of catalog ins
         (each_with catalog (record { item = item; row = row }) (typed row (inl refl)) (tuples catalog instance items) rests)
         (each rows (λ other h. typed other (inr h)) rests)
 
-each_under : (catalog : Catalog) (outer : Tuple) → IsTyped catalog outer → (owns : List Tuple) → AllByRecursion (IsTyped catalog) owns → AllByRecursion (IsTyped catalog) (map (λ own. own ++ outer) owns)
+each_under : (catalog : Catalog) (outer : Tuple) → IsTyped catalog outer → (owns : List Tuple) → AllByRecursion (IsTyped catalog) owns
+    → AllByRecursion (IsTyped catalog) (map (λ own. own ++ outer) owns)
 each_under catalog outer h [] k = tt
 each_under catalog outer h (own ∷ owns) k = (all_both (λ (b : Bound). IsTypedRow catalog b.item b.row) own outer k.0 h, each_under catalog outer h owns k.1)
 

@@ -38,7 +38,8 @@ loop-select-preserved g c =
     record {
       rows = h.0 ∙ ap (λ (l : TableRows). l ++ f c.select-item.result) c.loop-select.invariant.rows ∙ sym (flat_next f all i c.select-item.result within is);
       few = h.1 c.loop-select.invariant.few;
-      read = (let more = selects_next c.args.catalog.now T all i c.select-item.result within is in let one = c.run_select.ensures.steps in let read = c.loop-select.invariant.read in omega (arith, more, one, read));
+      read = (let more = selects_next c.args.catalog.now T all i c.select-item.result within is in let one = c.run_select.ensures.steps in
+          let read = c.loop-select.invariant.read in omega (arith, more, one, read));
     }
 
 pub returns-in_err-run_select-clause-steps : goal.returns-in_err-run_select-clause-steps

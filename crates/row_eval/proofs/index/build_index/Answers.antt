@@ -13,10 +13,12 @@ loop-place-preserved g c =
     let within : i < length all = omega arith in
     let same : c.row-row.result.now.values ≡ get_or all i [] = c.row-row.ensures.row in
     record {
-      lent = ap lent_rows (c.in_ok-push.ensures.items) ∙ map-append _ c.loop-place.lent.items (c.row-row.result ∷ []) ∙ ap (λ l. l ++ c.row-row.result.now.values ∷ []) c.loop-place.invariant.lent
+      lent = ap lent_rows (c.in_ok-push.ensures.items) ∙ map-append _ c.loop-place.lent.items (c.row-row.result ∷ [])
+          ∙ ap (λ l. l ++ c.row-row.result.now.values ∷ []) c.loop-place.invariant.lent
           ∙ ap (λ r. take i all ++ r ∷ []) same ∙ sym (take_more all i [] within);
       groups = λ q. c.in_ok-add_place.ensures q ∙ ap (λ l. cond (is_code q c.code_of_row.result) (l ++ i ∷ []) l) (c.loop-place.invariant.groups q)
-          ∙ ap (λ code. cond (is_code q code) (places_from (λ row. is_code q (row_code c.args.tied.now row)) 0 (take i all) ++ i ∷ []) (places_from (λ row. is_code q (row_code c.args.tied.now row)) 0 (take i all))) (c.code_of_row.ensures ∙ ap (row_code c.args.tied.now) same)
+          ∙ ap (λ code. cond (is_code q code) (places_from (λ row. is_code q (row_code c.args.tied.now row)) 0 (take i all) ++ i ∷ [])
+          (places_from (λ row. is_code q (row_code c.args.tied.now row)) 0 (take i all))) (c.code_of_row.ensures ∙ ap (row_code c.args.tied.now) same)
           ∙ sym (places_more (λ row. is_code q (row_code c.args.tied.now row)) all i within);
       read = omega arith;
     }

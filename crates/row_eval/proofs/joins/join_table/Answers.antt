@@ -13,8 +13,10 @@ returns-clause-found g c = λ s long.
 
 pub returns-clause-served : goal.returns-clause-served
 returns-clause-served g c = λ indexes number others.
-    joined_served (g.R.RowSource.tables c.args.rows.now) c.in_ok-stage.stage c.in_ok-kept.kept c.args.rest c.in_ok-access.access c.args.tests c.args.table indexes (indexes ++ c.in_ok-index.index ∷ []) c.in_ok-index.index
-    c.in_ok-stage.ensures c.in_ok-kept.ensures c.in_ok-access.ensures.table (c.in_ok-access.ensures.index ∙ number) c.requires refl (subst (λ tied. IsIndexOf tied (rows_at (g.R.RowSource.tables c.args.rows.now) c.args.table) c.in_ok-index.index) c.as_slice-2.ensures c.in_ok-index.ensures.index) others
+    joined_served (g.R.RowSource.tables c.args.rows.now) c.in_ok-stage.stage c.in_ok-kept.kept c.args.rest c.in_ok-access.access c.args.tests c.args.table indexes
+    (indexes ++ c.in_ok-index.index ∷ []) c.in_ok-index.index
+    c.in_ok-stage.ensures c.in_ok-kept.ensures c.in_ok-access.ensures.table (c.in_ok-access.ensures.index ∙ number) c.requires refl
+    (subst (λ tied. IsIndexOf tied (rows_at (g.R.RowSource.tables c.args.rows.now) c.args.table) c.in_ok-index.index) c.as_slice-2.ensures c.in_ok-index.ensures.index) others
 
 pub returns-clause-visits : goal.returns-clause-visits
 returns-clause-visits g c = λ s long.

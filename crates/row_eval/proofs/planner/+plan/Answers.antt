@@ -43,10 +43,14 @@ plan_absent-loop-conjunct-preserved g t c =
     let now = c.loop-conjunct.invariant in
     elim c.match-conjunct.branch [
       | plan_absent-in-Plain w ↦ record {
-        ends = subst (IsEndOf catalog T (take (i + 1) all) reach) (sym w.end-is) (end_plain catalog T reach all i c.conjunct-item.result w.in-Plain.field-0 c.loop-conjunct.end inside c.conjunct-item.is w.in-Plain.is now.ends);
-        reads_within = subst (IsEndWithin catalog T (take (i + 1) all) reach) (sym w.end-is) (within_plain catalog T reach all i c.conjunct-item.result c.loop-conjunct.end inside c.conjunct-item.is now.reads_within);
-        read = (let more = tables_more catalog T all i c.conjunct-item.result inside c.conjunct-item.is in let same = w.steps-is in let read = now.read in omega (arith, more, same, read));
-        served = subst (λ (indexes : List Index). AllServed T indexes (accesses c.match-conjunct.end)) (sym (ap (λ (v : Vec Index Global). v.items) w.indexes-is)) (subst (λ (e : Stage). AllServed T c.loop-conjunct.indexes.items (accesses e)) (sym w.end-is) now.served);
+        ends = subst (IsEndOf catalog T (take (i + 1) all) reach) (sym w.end-is)
+            (end_plain catalog T reach all i c.conjunct-item.result w.in-Plain.field-0 c.loop-conjunct.end inside c.conjunct-item.is w.in-Plain.is now.ends);
+        reads_within = subst (IsEndWithin catalog T (take (i + 1) all) reach) (sym w.end-is)
+            (within_plain catalog T reach all i c.conjunct-item.result c.loop-conjunct.end inside c.conjunct-item.is now.reads_within);
+        read = (let more = tables_more catalog T all i c.conjunct-item.result inside c.conjunct-item.is in let same = w.steps-is in let read = now.read in
+            omega (arith, more, same, read));
+        served = subst (λ (indexes : List Index). AllServed T indexes (accesses c.match-conjunct.end)) (sym (ap (λ (v : Vec Index Global). v.items) w.indexes-is))
+            (subst (λ (e : Stage). AllServed T c.loop-conjunct.indexes.items (accesses e)) (sym w.end-is) now.served);
         kept = λ l h. subst (λ (indexes : List Index). AllServed T indexes l) (sym (ap (λ (v : Vec Index Global). v.items) w.indexes-is)) (now.kept l h);
       }
       | plan_absent-in-NotExists+in_ok-inner-in-NotExists+in_ok-end-in-NotExists w ↦
@@ -57,13 +61,19 @@ plan_absent-loop-conjunct-preserved g t c =
           let grown : c.match-conjunct.indexes.items ≡ inner.indexes.items = ap (λ (v : Vec Index Global). v.items) w.indexes-is in
           let bound : IsWithin catalog T w.in-NotExists.select reach inner.stage = subst (λ (s : Select). IsWithin catalog T s reach inner.stage) w.get.ensures told.within in
           let tables : rows_in catalog T (tables_of_conjunct c.conjunct-item.result) ≡ rows_in catalog T (tables_in w.get.result.now) =
-          ap (rows_in catalog T) (tables_absent c.conjunct-item.result w.in-NotExists.select w.in-NotExists.is) ∙ ap (λ (s : Select). rows_in catalog T (tables_in s)) (sym w.get.ensures) in
+          ap (rows_in catalog T) (tables_absent c.conjunct-item.result w.in-NotExists.select w.in-NotExists.is)
+          ∙ ap (λ (s : Select). rows_in catalog T (tables_in s)) (sym w.get.ensures) in
           record {
-            reads_within = subst (IsEndWithin catalog T (take (i + 1) all) reach) (sym w.end-is) (within_absent catalog T reach all i c.conjunct-item.result w.in-NotExists.select inner.stage c.loop-conjunct.end w.in_ok-end-in-NotExists.end inside c.conjunct-item.is w.in-NotExists.is made bound now.reads_within);
-            read = (let more = tables_more catalog T all i c.conjunct-item.result inside c.conjunct-item.is in let same = w.steps-is in let read = now.read in let one = told.steps in omega (arith, more, same, read, one, tables));
-            ends = subst (IsEndOf catalog T (take (i + 1) all) reach) (sym w.end-is) (end_absent catalog T reach all i c.conjunct-item.result w.in-NotExists.select inner.stage c.loop-conjunct.end w.in_ok-end-in-NotExists.end inside c.conjunct-item.is w.in-NotExists.is made plan now.ends);
-            served = subst (λ (indexes : List Index). AllServed T indexes (accesses c.match-conjunct.end)) (sym grown) (subst (λ (e : Stage). AllServed T inner.indexes.items (accesses e)) (sym w.end-is)
-                (absent_served T inner.indexes.items inner.stage c.loop-conjunct.end w.in_ok-end-in-NotExists.end made told.served (told.kept (accesses c.loop-conjunct.end) now.served)));
+            reads_within = subst (IsEndWithin catalog T (take (i + 1) all) reach) (sym w.end-is)
+                (within_absent catalog T reach all i c.conjunct-item.result w.in-NotExists.select inner.stage c.loop-conjunct.end w.in_ok-end-in-NotExists.end inside c.conjunct-item.is w.in-NotExists.is made bound now.reads_within);
+            read = (let more = tables_more catalog T all i c.conjunct-item.result inside c.conjunct-item.is in let same = w.steps-is in let read = now.read in
+                let one = told.steps in omega (arith, more, same, read, one, tables));
+            ends = subst (IsEndOf catalog T (take (i + 1) all) reach) (sym w.end-is)
+                (end_absent catalog T reach all i c.conjunct-item.result w.in-NotExists.select inner.stage c.loop-conjunct.end w.in_ok-end-in-NotExists.end inside c.conjunct-item.is w.in-NotExists.is made plan now.ends);
+            served = subst (λ (indexes : List Index). AllServed T indexes (accesses c.match-conjunct.end)) (sym grown)
+                (subst (λ (e : Stage). AllServed T inner.indexes.items (accesses e)) (sym w.end-is)
+                (absent_served T inner.indexes.items inner.stage c.loop-conjunct.end w.in_ok-end-in-NotExists.end made told.served
+                (told.kept (accesses c.loop-conjunct.end) now.served)));
             kept = λ l h. subst (λ (indexes : List Index). AllServed T indexes l) (sym grown) (told.kept l (now.kept l h));
           }
     ]
@@ -76,7 +86,8 @@ plan-plan_absent-requires g t c =
     let reach = c.as_slice-2.result.now in
     let same : placed reach ≡ reach_under select.from (placed outer) =
     ap placed c.as_slice-2.ensures.value ∙ c.in_ok-reach.ensures ∙ ap (λ (items : List FromItem). reach_under items (placed outer)) c.as_slice.ensures in
-    let sound = subst (λ (all : List Conjunct). list_all (λ conjunct. conjunct (items_in (placed reach))) (map (conjunct_is_sound catalog) all) ≡ true) (sym c.as_slice-conjuncts.ensures)
+    let sound = subst (λ (all : List Conjunct). list_all (λ conjunct. conjunct (items_in (placed reach))) (map (conjunct_is_sound catalog) all) ≡ true)
+    (sym c.as_slice-conjuncts.ensures)
     (inner_sound catalog select outer reach c.requires.sound same) in
     λ κs w. (search (rules, the_lemmas), (search rules, (search rules, (sound, (reach_below reach select.from outer same c.requires.below, c.requires.meets)))))
 
@@ -107,7 +118,8 @@ plan_absent-returns-in_err-inner-in-NotExists-clause-steps g t c =
     let i = c.loop-conjunct.conjunct-index in
     let inside : i < length all = omega arith in
     let tables : rows_in catalog T (tables_of_conjunct c.conjunct-item.result) ≡ rows_in catalog T (tables_in c.get.result.now) =
-    ap (rows_in catalog T) (tables_absent c.conjunct-item.result c.in-NotExists.select c.in-NotExists.is) ∙ ap (λ (s : Select). rows_in catalog T (tables_in s)) (sym c.get.ensures) in
+    ap (rows_in catalog T) (tables_absent c.conjunct-item.result c.in-NotExists.select c.in-NotExists.is)
+    ∙ ap (λ (s : Select). rows_in catalog T (tables_in s)) (sym c.get.ensures) in
     let more = tables_more catalog T all i c.conjunct-item.result inside c.conjunct-item.is in
     let front = tables_front catalog T all (i + 1) in
     let read = c.loop-conjunct.invariant.read in
@@ -122,7 +134,8 @@ plan_absent-returns-in_err-end-in-NotExists-clause-steps g t c =
     let i = c.loop-conjunct.conjunct-index in
     let inside : i < length all = omega arith in
     let tables : rows_in catalog T (tables_of_conjunct c.conjunct-item.result) ≡ rows_in catalog T (tables_in c.get.result.now) =
-    ap (rows_in catalog T) (tables_absent c.conjunct-item.result c.in-NotExists.select c.in-NotExists.is) ∙ ap (λ (s : Select). rows_in catalog T (tables_in s)) (sym c.get.ensures) in
+    ap (rows_in catalog T) (tables_absent c.conjunct-item.result c.in-NotExists.select c.in-NotExists.is)
+    ∙ ap (λ (s : Select). rows_in catalog T (tables_in s)) (sym c.get.ensures) in
     let more = tables_more catalog T all i c.conjunct-item.result inside c.conjunct-item.is in
     let front = tables_front catalog T all (i + 1) in
     let read = c.loop-conjunct.invariant.read in

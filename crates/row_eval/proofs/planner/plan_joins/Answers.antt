@@ -28,9 +28,11 @@ pub returns-clause-found : goal.returns-clause-found
 returns-clause-found g c =
     let long : length c.in_ok-sorted.sorted.legs.items ≡ length c.args.select.now.from =
     legs_long c.args.planner.now.catalog.now c.in_ok-sorted.sorted.legs.items c.args.select.now.from c.in_ok-sorted.ensures.tables in
-    let size : length c.args.reach.now ≡ length c.args.select.now.from + length c.args.outer.now = reach_size c.args.reach.now c.args.select.now.from c.args.outer.now c.requires.reach in
+    let size : length c.args.reach.now
+    ≡ length c.args.select.now.from + length c.args.outer.now = reach_size c.args.reach.now c.args.select.now.from c.args.outer.now c.requires.reach in
     let small : length c.args.outer.now + length c.in_ok-sorted.sorted.legs.items < 2 ^ 64 - 1 = omega arith in
-    joins_plan c.args.planner.now.catalog.now (g.R.RowSource.tables c.args.planner.now.rows.now) c.requires.meets c.args.select.now c.args.outer.now c.args.reach.now c.requires.sound c.requires.below c.requires.reach
+    joins_plan c.args.planner.now.catalog.now
+    (g.R.RowSource.tables c.args.planner.now.rows.now) c.requires.meets c.args.select.now c.args.outer.now c.args.reach.now c.requires.sound c.requires.below c.requires.reach
     c.in_ok-sorted.sorted c.args.end.stage c.in_ok-joined.joined.stage c.in_ok-stage.stage c.in_ok-stage.ensures c.in_ok-joined.ensures.found c.requires.end small
     c.in_ok-sorted.ensures.sorted c.in_ok-sorted.ensures.tables c.in_ok-sorted.ensures.all
 
@@ -38,26 +40,31 @@ pub returns-clause-within : goal.returns-clause-within
 returns-clause-within g c =
     let long : length c.in_ok-sorted.sorted.legs.items ≡ length c.args.select.now.from =
     legs_long c.args.planner.now.catalog.now c.in_ok-sorted.sorted.legs.items c.args.select.now.from c.in_ok-sorted.ensures.tables in
-    let size : length c.args.reach.now ≡ length c.args.select.now.from + length c.args.outer.now = reach_size c.args.reach.now c.args.select.now.from c.args.outer.now c.requires.reach in
+    let size : length c.args.reach.now
+    ≡ length c.args.select.now.from + length c.args.outer.now = reach_size c.args.reach.now c.args.select.now.from c.args.outer.now c.requires.reach in
     let small : length c.args.outer.now + length c.in_ok-sorted.sorted.legs.items < 2 ^ 64 - 1 = omega arith in
-    joins_within c.args.planner.now.catalog.now (g.R.RowSource.tables c.args.planner.now.rows.now) c.requires.meets c.args.select.now c.args.outer.now c.args.reach.now c.requires.sound c.requires.below c.requires.reach
+    joins_within c.args.planner.now.catalog.now
+    (g.R.RowSource.tables c.args.planner.now.rows.now) c.requires.meets c.args.select.now c.args.outer.now c.args.reach.now c.requires.sound c.requires.below c.requires.reach
     c.in_ok-sorted.sorted c.args.end.stage c.in_ok-joined.joined.stage c.in_ok-stage.stage c.in_ok-stage.ensures c.in_ok-joined.ensures.visits c.requires.within small
     c.in_ok-sorted.ensures.sorted c.in_ok-sorted.ensures.tables c.in_ok-sorted.ensures.all
 
 pub returns-in_err-joined-clause-steps : goal.returns-in_err-joined-clause-steps
 returns-in_err-joined-clause-steps g c =
     let read = c.join_all.ensures.steps in
-    let same = legs_read c.args.planner.now.catalog.now (g.R.RowSource.tables c.args.planner.now.rows.now) c.in_ok-sorted.sorted.legs.items c.args.select.now.from c.in_ok-sorted.ensures.tables in
+    let same = legs_read c.args.planner.now.catalog.now
+    (g.R.RowSource.tables c.args.planner.now.rows.now) c.in_ok-sorted.sorted.legs.items c.args.select.now.from c.in_ok-sorted.ensures.tables in
     omega (arith, read, same)
 
 pub returns-in_err-stage-clause-steps : goal.returns-in_err-stage-clause-steps
 returns-in_err-stage-clause-steps g c =
     let read = c.join_all.ensures.steps in
-    let same = legs_read c.args.planner.now.catalog.now (g.R.RowSource.tables c.args.planner.now.rows.now) c.in_ok-sorted.sorted.legs.items c.args.select.now.from c.in_ok-sorted.ensures.tables in
+    let same = legs_read c.args.planner.now.catalog.now
+    (g.R.RowSource.tables c.args.planner.now.rows.now) c.in_ok-sorted.sorted.legs.items c.args.select.now.from c.in_ok-sorted.ensures.tables in
     omega (arith, read, same)
 
 pub returns-clause-steps : goal.returns-clause-steps
 returns-clause-steps g c =
     let read = c.join_all.ensures.steps in
-    let same = legs_read c.args.planner.now.catalog.now (g.R.RowSource.tables c.args.planner.now.rows.now) c.in_ok-sorted.sorted.legs.items c.args.select.now.from c.in_ok-sorted.ensures.tables in
+    let same = legs_read c.args.planner.now.catalog.now
+    (g.R.RowSource.tables c.args.planner.now.rows.now) c.in_ok-sorted.sorted.legs.items c.args.select.now.from c.in_ok-sorted.ensures.tables in
     omega (arith, read, same)

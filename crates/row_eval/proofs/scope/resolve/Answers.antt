@@ -10,4 +10,6 @@ if_ok (Err e) P Q f h = tt
 
 pub returns : goal.returns
 returns c =
-    if_ok c.map_leaves.result _ _ (λ e h. h (leaf_expr_of c.args.catalog.now (placed c.args.reach.now)) (each_from_all _ (λ l r w. subst (λ q. IfOk q (λ x. x ≡ leaf_expr_of c.args.catalog.now (placed c.args.reach.now) l)) (sym w.says.met) (ap (leaf_expr_of c.args.catalog.now (placed c.args.reach.now)) w.shows)) (leaves_in c.args.expr.now))) c.map_leaves.ensures.exact
+    if_ok c.map_leaves.result _ _ (λ e h. h (leaf_expr_of c.args.catalog.now (placed c.args.reach.now))
+    (each_from_all _ (λ l r w. subst (λ q. IfOk q (λ x. x ≡ leaf_expr_of c.args.catalog.now (placed c.args.reach.now) l)) (sym w.says.met)
+    (ap (leaf_expr_of c.args.catalog.now (placed c.args.reach.now)) w.shows)) (leaves_in c.args.expr.now))) c.map_leaves.ensures.exact

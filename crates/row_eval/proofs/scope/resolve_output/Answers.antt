@@ -6,4 +6,7 @@ use Rattle.row_eval.proofs.ClassLemmas.{resolved_rules}
 use Rattle.row_eval.proofs.scope.resolve_output.Goals as goal
 
 pub invariant_of-result : goal.invariant_of-result
-invariant_of-result c = record { well_classed = subst (IsWellClassed slot_class) (sym c.in_ok-expr.ensures) (resolved_rules c.args.catalog.now (placed c.args.reach.now) c.args.expr.now c.requires) }
+invariant_of-result c = record {
+  well_classed = subst (IsWellClassed slot_class) (sym c.in_ok-expr.ensures)
+      (resolved_rules c.args.catalog.now (placed c.args.reach.now) c.args.expr.now c.requires);
+}

@@ -25,8 +25,10 @@ returns-clause-all c =
     let plain = λ (all : List Conjunct). flat_map (λ conjunct. plain_at (out-Conjunct conjunct)) all in
     if_ok c.sort_plain.result _ _
     (λ r h. subst (λ (conditions : List (Expr ColumnLeaf)). SortsAll c.args.catalog.now (placed c.args.reach.now) conditions r)
-    (ap (λ (l : List FromItem). all_members l ++ plain conjuncts) c.as_slice-items.ensures ∙ ap (λ (l : List Conjunct). all_members c.args.select.now.from ++ plain l) c.as_slice-conjuncts.ensures)
-    (all_sorted c.args.catalog.now (placed c.args.reach.now) c.args.depth items (all_members items) (plain conjuncts) bare c.in_ok-half.half r c.new.ensures c.in_ok-legs_of.ensures c.in_ok-half.ensures h))
+    (ap (λ (l : List FromItem). all_members l ++ plain conjuncts) c.as_slice-items.ensures
+    ∙ ap (λ (l : List Conjunct). all_members c.args.select.now.from ++ plain l) c.as_slice-conjuncts.ensures)
+    (all_sorted c.args.catalog.now (placed c.args.reach.now) c.args.depth items (all_members items)
+    (plain conjuncts) bare c.in_ok-half.half r c.new.ensures c.in_ok-legs_of.ensures c.in_ok-half.ensures h))
     c.sort_plain.ensures
 
 pub returns-clause-tables : goal.returns-clause-tables
@@ -36,6 +38,7 @@ returns-clause-tables c =
     let bare : Sorted = record { first = c.new.result; legs = c.in_ok-legs_of.field-0 } in
     let plain = λ (all : List Conjunct). flat_map (λ conjunct. plain_at (out-Conjunct conjunct)) all in
     if_ok c.sort_plain.result _ _
-    (λ r h. sorted_tables c.args.catalog.now (placed c.args.reach.now) c.args.depth items (all_members items) (plain conjuncts) bare c.in_ok-half.half r c.in_ok-legs_of.ensures c.in_ok-half.ensures h
+    (λ r h. sorted_tables c.args.catalog.now (placed c.args.reach.now) c.args.depth items (all_members items)
+    (plain conjuncts) bare c.in_ok-half.half r c.in_ok-legs_of.ensures c.in_ok-half.ensures h
     ∙ ap (map (table_place_of c.args.catalog.now)) c.as_slice-items.ensures)
     c.sort_plain.ensures

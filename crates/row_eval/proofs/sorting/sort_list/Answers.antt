@@ -12,4 +12,5 @@ loop-condition-preserved c =
     let x = c.condition-item.result in
     let within : i < length all = omega arith in
     subst (λ l. Adds c.args.catalog.now reach c.args.depth l c.args.sorted c.in_ok-sorted.sorted) (take_next all i x within c.condition-item.is)
-    (adds_more c.args.catalog.now reach c.args.depth (take i all) (x ∷ []) c.args.sorted c.loop-condition.sorted c.in_ok-sorted.sorted c.loop-condition.invariant c.in_ok-sorted.ensures)
+    (adds_more c.args.catalog.now reach c.args.depth (take i all)
+    (x ∷ []) c.args.sorted c.loop-condition.sorted c.in_ok-sorted.sorted c.loop-condition.invariant c.in_ok-sorted.ensures)

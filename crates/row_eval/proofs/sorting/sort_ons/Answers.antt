@@ -14,7 +14,8 @@ sort_on-requires-clause-sound c =
     let all = c.args.items.now in
     let i = c.loop-item.item-index in
     let within : i < length all = omega arith in
-    flat_at (λ (x : FromItem). members_of x.on) (condition_is_sound c.args.catalog.now (items_in (placed c.args.reach.now))) all i c.item-item.result within c.item-item.is c.requires.sound
+    flat_at (λ (x : FromItem). members_of x.on)
+    (condition_is_sound c.args.catalog.now (items_in (placed c.args.reach.now))) all i c.item-item.result within c.item-item.is c.requires.sound
 
 pub loop-item-preserved : goal.loop-item-preserved
 loop-item-preserved c =
@@ -23,5 +24,7 @@ loop-item-preserved c =
     let i = c.loop-item.item-index in
     let x = c.item-item.result in
     let within : i < length all = omega arith in
-    subst (λ l. Adds c.args.catalog.now reach c.args.depth l c.args.sorted c.in_ok-sorted.sorted) (sym (flat_next (λ (x : FromItem). members_of x.on) all i x within c.item-item.is))
-    (adds_more c.args.catalog.now reach c.args.depth (flat_map (λ (x : FromItem). members_of x.on) (take i all)) ((λ (x : FromItem). members_of x.on) x) c.args.sorted c.loop-item.sorted c.in_ok-sorted.sorted c.loop-item.invariant c.in_ok-sorted.ensures)
+    subst (λ l. Adds c.args.catalog.now reach c.args.depth l c.args.sorted c.in_ok-sorted.sorted)
+    (sym (flat_next (λ (x : FromItem). members_of x.on) all i x within c.item-item.is))
+    (adds_more c.args.catalog.now reach c.args.depth (flat_map (λ (x : FromItem). members_of x.on) (take i all))
+    ((λ (x : FromItem). members_of x.on) x) c.args.sorted c.loop-item.sorted c.in_ok-sorted.sorted c.loop-item.invariant c.in_ok-sorted.ensures)

@@ -13,7 +13,8 @@ sort_conjunct-requires-clause-sound c =
     let all = c.args.conjuncts.now in
     let i = c.loop-conjunct.conjunct-index in
     let within : i < length all = omega arith in
-    flat_at (λ (x : Conjunct). plain_at (out-Conjunct x)) (condition_is_sound c.args.catalog.now (items_in (placed c.args.reach.now))) all i c.conjunct-item.result within c.conjunct-item.is c.requires.sound
+    flat_at (λ (x : Conjunct). plain_at (out-Conjunct x))
+    (condition_is_sound c.args.catalog.now (items_in (placed c.args.reach.now))) all i c.conjunct-item.result within c.conjunct-item.is c.requires.sound
 
 pub loop-conjunct-preserved : goal.loop-conjunct-preserved
 loop-conjunct-preserved c =
@@ -22,5 +23,7 @@ loop-conjunct-preserved c =
     let i = c.loop-conjunct.conjunct-index in
     let x = c.conjunct-item.result in
     let within : i < length all = omega arith in
-    subst (λ l. Adds c.args.catalog.now reach c.args.depth l c.args.sorted c.in_ok-sorted.sorted) (sym (flat_next (λ (x : Conjunct). plain_at (out-Conjunct x)) all i x within c.conjunct-item.is))
-    (adds_more c.args.catalog.now reach c.args.depth (flat_map (λ (x : Conjunct). plain_at (out-Conjunct x)) (take i all)) ((λ (x : Conjunct). plain_at (out-Conjunct x)) x) c.args.sorted c.loop-conjunct.sorted c.in_ok-sorted.sorted c.loop-conjunct.invariant c.in_ok-sorted.ensures)
+    subst (λ l. Adds c.args.catalog.now reach c.args.depth l c.args.sorted c.in_ok-sorted.sorted)
+    (sym (flat_next (λ (x : Conjunct). plain_at (out-Conjunct x)) all i x within c.conjunct-item.is))
+    (adds_more c.args.catalog.now reach c.args.depth (flat_map (λ (x : Conjunct). plain_at (out-Conjunct x)) (take i all))
+    ((λ (x : Conjunct). plain_at (out-Conjunct x)) x) c.args.sorted c.loop-conjunct.sorted c.in_ok-sorted.sorted c.loop-conjunct.invariant c.in_ok-sorted.ensures)

@@ -7,4 +7,5 @@ use Rattle.row_eval.specs.Sorted.{Adds}
 use Rattle.row_eval.proofs.sorting.sort_plain.Given as goal
 
 abbrev pub invariant-loop-conjunct : goal.invariant-loop-conjunct
-invariant-loop-conjunct l = Adds l.catalog (placed l.reach) l.depth (flat_map (λ conjunct. plain_at (out-Conjunct conjunct)) (take l.conjunct-index l.conjuncts)) l.fn.sorted l.sorted
+invariant-loop-conjunct l = Adds l.catalog (placed l.reach) l.depth
+    (flat_map (λ conjunct. plain_at (out-Conjunct conjunct)) (take l.conjunct-index l.conjuncts)) l.fn.sorted l.sorted
