@@ -117,20 +117,6 @@ fn catalog(alloc: Global) -> Result<Catalog, NoMemory> {
     })
 }
 
-// `(x)-[x]->(y) WHERE x.id`
-static TWO_KINDS: [(Form, Word); 3] = [
-    (Form::Vertex, ("x", 36, 37)),
-    (Form::Edge, ("x", 40, 41)),
-    (Form::Vertex, ("y", 45, 46)),
-];
-
-// `(a)-[e]->{1,2}(b) WHERE e.id`
-static GROUP: [(Form, Word); 3] = [
-    (Form::Vertex, ("a", 36, 37)),
-    (Form::Edges, ("e", 40, 41)),
-    (Form::Vertex, ("b", 50, 51)),
-];
-
 fn expect(alloc: Global, tree: &QueryTree, wanted: (u32, u32, u32)) -> Result<(), Fail> {
     let (code, from, to) = wanted;
     let catalog = catalog(alloc)?;
@@ -147,11 +133,66 @@ fn expect(alloc: Global, tree: &QueryTree, wanted: (u32, u32, u32)) -> Result<()
     }
 }
 
+const A: (Form, Word) = (Form::Vertex, ("a", 36, 37));
+
+const B: (Form, Word) = (Form::Vertex, ("b", 50, 51));
+
+const C: (Form, Word) = (Form::Vertex, ("c", 59, 60));
+
+const TWICE: (Form, Word) = (Form::Edges, ("e", 40, 41));
+
+const AGAIN: (Form, Word) = (Form::Edge, ("e", 54, 55));
+
+const X: (Form, Word) = (Form::Vertex, ("x", 36, 37));
+
+const X_AGAIN: (Form, Word) = (Form::Edge, ("x", 40, 41));
+
+const Y: (Form, Word) = (Form::Vertex, ("y", 45, 46));
+
+// A path pattern, the leaf behind WHERE, and the code and the span of the first fault.
+type Row = (&'static [(Form, Word)], (Word, Word), (u32, u32, u32));
+
+// `(x)-[x]->(y) WHERE x.id`, then `(a)-[e]->{1,2}(b)` with `WHERE e.id`, `WHERE z.id` and `WHERE a.city`, and
+// `(a)-[e]->{1,2}(b)-[e]->(c) WHERE a.id`.
+static ROWS: [Row; 5] = [
+    (
+        &[X, X_AGAIN, Y],
+        (("x", 55, 56), ("id", 57, 59)),
+        (605, 40, 41),
+    ),
+    (
+        &[A, TWICE, B],
+        (("e", 59, 60), ("id", 61, 63)),
+        (604, 59, 60),
+    ),
+    (
+        &[A, TWICE, B],
+        (("z", 59, 60), ("id", 61, 63)),
+        (603, 59, 60),
+    ),
+    (
+        &[A, TWICE, B],
+        (("a", 59, 60), ("city", 61, 65)),
+        (608, 61, 65),
+    ),
+    (
+        &[A, TWICE, B, AGAIN, C],
+        (("a", 67, 68), ("id", 69, 71)),
+        (606, 54, 55),
+    ),
+];
+
+fn try_row(alloc: Global, row: &Row) -> Result<(), Fail> {
+    let (marks, leaf, wanted) = *row;
+    let tree = query(alloc, marks, leaf)?;
+    expect(alloc, &tree, wanted)
+}
+
 #[test]
 fn names_of_a_pattern(rt: HostRuntime) -> Result<(), Fail> {
     let alloc = rt.alloc();
-    let tree = query(alloc, &TWO_KINDS, (("x", 55, 56), ("id", 57, 59)))?;
-    expect(alloc, &tree, (605, 40, 41))?;
-    let tree = query(alloc, &GROUP, (("e", 59, 60), ("id", 61, 63)))?;
-    expect(alloc, &tree, (604, 59, 60))
+    for row in &ROWS {
+        try_row(alloc, row)?;
+    }
+    Ok(())
 }
