@@ -1,10 +1,5 @@
-<<<<<<< HEAD
-ghost use Rattle.std.specs.Prelude.{◌≡◌, ◌++◌, [], map, flat_map, option_copied, option_to_list, IfOk};
-ghost use Rattle.graph_ast.specs.Patterns.{given_by, sequence_given, part_given, body_given};
-=======
 ghost use Rattle.std.specs.Prelude.{◌≡◌, ◌++◌, [], map, flat_map, IfOk};
-ghost use Rattle.pattern_check.specs.Patterns.{given_by, sequence_given, part_given, body_given};
->>>>>>> fa7824b4c84ab22d54a1aa4996369d39753a2456
+ghost use Rattle.graph_ast.specs.Patterns.{given_by, sequence_given, part_given, body_given};
 ghost use Rattle.pattern_check.specs.Scopes.{using, names_in, body_variables};
 ghost use Rattle.pattern_check.specs.Variables.{row_variables, variables_if};
 
