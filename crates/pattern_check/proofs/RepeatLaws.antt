@@ -1,6 +1,6 @@
 -- A variable that is declared again: what is asked operand by operand is what is asked of all declarations before.
 use Rattle.std.proofs.Common.{◌≡◌, ◌∙◌, ℕ, ◌+◌, ◌<◌, Bool, true, false, ◌||◌, ◌&&◌, not, nat_eq, ap, sym, refl, List, [], ◌∷◌, ◌++◌, map, append_assoc, arith}
-use Rattle.std.specs.List.{flat_map, list_any, enumerate_from, AllByRecursion}
+use Rattle.std.specs.List.{list_any, AllByRecursion}
 use Rattle.std.proofs.lemmas.Bool.Decides.{nat_tests}
 use Rattle.std.proofs.lemmas.List.{map-append, append-nil}
 use Rattle.pgq_base.specs.declared.code.Code.TheVariants as code
@@ -9,7 +9,7 @@ use Rattle.first_faults.proofs.Steps.{list_any_append}
 use Rattle.pattern_check.specs.declared.mentions.Mention.{Mention}
 use Rattle.pattern_check.specs.Scopes.{Declaration, declares, same_kind}
 use Rattle.pattern_check.specs.NameRules.{may_stand_together, variable_kind, variable_repeated, declaration_faults_behind}
-use Rattle.pattern_check.specs.Mentions.{placed, unplaced, said, row_said, rows_said, operands_placed, all_placed}
+use Rattle.pattern_check.specs.Mentions.{placed, unplaced, said, row_said, rows_said, all_placed}
 use Rattle.pattern_check.specs.ByName.{has_other_kind, has_same_kind}
 use Rattle.pattern_check.specs.Repeats.{mention_faults, operand_faults, path_faults, said_faults}
 use Rattle.pattern_check.proofs.Unplaced.{any_mapped}

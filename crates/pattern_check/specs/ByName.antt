@@ -1,7 +1,9 @@
 -- What is asked of some declarations by name.
-use Rattle.std.specs.Prelude.{◌≡◌, ℕ, Bool, true, false, ◌&&◌, ◌||◌, not, cond, List, [], ◌∷◌, flat_map, Option, None, Some}
+use Rattle.std.specs.Prelude.{◌≡◌, ℕ, Bool, true, false, ◌&&◌, ◌||◌, not, cond, List, [], ◌∷◌, map, flat_map, Option, None, Some}
 use Rattle.std.specs.List.{list_any, list_all}
 use Rattle.graph_ast.specs.declared.catalog.Graph.{Graph}
+use Rattle.graph_ast.specs.declared.catalog.Element.{Element}
+use Rattle.graph_ast.specs.declared.catalog.Property.{Property}
 use Rattle.pattern_check.specs.declared.mentions.Mention.{Mention}
 use Rattle.pattern_check.specs.Graphs.{elements_of_kind, has_property}
 use Rattle.pattern_check.specs.Scopes.{Kind, same_kind, Declaration, declares}
@@ -36,6 +38,10 @@ abbrev pub has_same_kind : Declaration → List Declaration → Bool
 has_same_kind later all =
     list_any (λ (earlier : Declaration).
     declares later.variable.name earlier && (same_kind earlier.kind later.kind && (earlier.place.quantified || later.place.quantified))) all
+
+-- the names of an element's properties
+abbrev pub property_names : Element → List (List ℕ)
+property_names element = map (λ (property : Property). property.name) element.properties
 
 -- no element of the kind, if there is one, has the property
 abbrev pub lacks : Graph → Option Kind → List ℕ → Bool

@@ -1,8 +1,5 @@
 ghost use Rattle.std.specs.Prelude.{◌≡◌, ◌&&◌, not, option_map};
-ghost use Rattle.std.specs.List.{list_any};
-ghost use Rattle.graph_ast.specs.declared.catalog.EdgeElement.{EdgeElement as EdgeTree};
 ghost use Rattle.pattern_check.specs.Mentions.{kind_of};
-ghost use Rattle.pattern_check.specs.Graphs.{elements_of_kind, has_property};
 ghost use Rattle.pattern_check.specs.ByName.{lacks};
 ghost use Rattle.pattern_check.specs.NameRules.{is_declared, is_out_of_reach, is_out_of_scope, variable_faults, unknown_property};
 
@@ -10,8 +7,9 @@ use crate::around::Around;
 use crate::declared::Declared;
 use crate::leaves::LeafRule;
 use crate::mentions::Sort;
+use crate::properties::Shown;
 use first_faults::{Fault, note};
-use graph_ast::{EdgeElement, Element, Graph, PropertyRef};
+use graph_ast::PropertyRef;
 use pgq_base::{Code, Name};
 
 /// The rule that a leaf's variable is declared, and that the leaf stands where it may be looked at.
@@ -54,53 +52,21 @@ impl<'d, 't> LeafRule for Variables<'d, 't> {
 
 /// The rule that some element of the first kind of a leaf's variable has the leaf's property.
 #[derive(Clone, Copy, Drop)]
-pub struct Properties<'d, 't> {
+pub struct Properties<'d, 't, 'g> {
     pub declared: &'d Declared<'t>,
-    pub graph: &'d Graph,
+    pub graph: &'d Shown<'g>,
 }
 
-fn element_has(element: &Element, property: &Name) -> bool
-    ensures { result ≡ has_property property.now element.now }
-{
-    element.column_of(property).is_some()
-}
-
-fn vertices_have(elements: &[Element], property: &Name) -> bool
-    ensures { result ≡ list_any (has_property property.now) elements.now }
-{
-    elements
-        .iter()
-        .any(|element| element_has(element, property))
-}
-
-fn edges_have(edges: &[EdgeElement], property: &Name) -> bool
-    ensures { result ≡ list_any (λ (edge : EdgeTree). has_property property.now edge.element) edges.now }
-{
-    edges
-        .iter()
-        .any(|edge| element_has(&edge.element, property))
-}
-
-#[tactic(auto, using(crate::proofs::Unplaced::any_mapped))]
-fn kind_has(graph: &Graph, kind: Sort, property: &Name) -> bool
-    ensures { result ≡ list_any (has_property property.now) (elements_of_kind graph.now (kind_of kind)) }
-{
-    match kind {
-        Sort::Vertices => vertices_have(graph.vertices.as_slice(), property),
-        Sort::Edges => edges_have(graph.edges.as_slice(), property),
-    }
-}
-
-fn lacks(graph: &Graph, kind: Option<Sort>, property: &Name) -> bool
+fn lacks(graph: &Shown<'_>, kind: Option<Sort>, property: &Name) -> bool
     ensures { result ≡ lacks graph.now (option_map kind_of kind) property.now }
 {
     match kind {
         None => false,
-        Some(kind) => !kind_has(graph, kind, property),
+        Some(kind) => !graph.has(kind, property),
     }
 }
 
-impl<'d, 't> LeafRule for Properties<'d, 't> {
+impl<'d, 't, 'g> LeafRule for Properties<'d, 't, 'g> {
     ghost faults = { λ rule used. unknown_property rule.graph.now rule.declared.now used.leaf };
 
     fn look(

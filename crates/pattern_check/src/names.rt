@@ -11,6 +11,7 @@ use crate::labels::unknown_labels;
 use crate::leaf_rules::{Properties, Variables};
 use crate::leaves::leaf_faults;
 use crate::mentions::{Mention, paths_mentions};
+use crate::properties::Shown;
 use crate::repeats::{all_declared, declaration_faults};
 use crate::unions::unions_faults;
 use first_faults::{Fault, note, same_name};
@@ -64,8 +65,12 @@ fn property_faults(
     requires { declared.now ≡ map unplaced (declarations tree.now) }
     ensures { IfOk result (λ found. found ≡ first_of first (flat_map (λ (used : Use). unknown_property graph.now (declarations tree.now) used.leaf) (uses tree.now))) }
 {
-    let rule = Properties { declared, graph };
-    leaf_faults::<Properties<'_, '_>>(alloc, first, tree, &rule)
+    let shown = Shown::new(alloc, graph)?;
+    let rule = Properties {
+        declared,
+        graph: &shown,
+    };
+    leaf_faults::<Properties<'_, '_, '_>>(alloc, first, tree, &rule)
 }
 
 #[tactic(auto, using(first_faults::proofs::Steps::first_of_append))]

@@ -1,4 +1,4 @@
-ghost use Rattle.std.specs.Prelude.{◌≡◌, ◌&&◌, drop, map, flat_map, option_copied, option_to_list, slice_get, IfOk};
+ghost use Rattle.std.specs.Prelude.{◌≡◌, ◌&&◌, drop, flat_map, option_copied, option_to_list, slice_get, IfOk};
 ghost use Rattle.std.specs.List.{list_all};
 ghost use Rattle.first_faults.specs.Faults.{first_of};
 ghost use Rattle.pattern_check.specs.declared.mentions.Mention.{Mention as MentionTree};

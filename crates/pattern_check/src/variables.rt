@@ -1,4 +1,4 @@
-ghost use Rattle.std.specs.Prelude.{◌≡◌, ◌++◌, [], map, flat_map, option_copied, option_to_list, IfOk};
+ghost use Rattle.std.specs.Prelude.{◌≡◌, ◌++◌, [], map, flat_map, IfOk};
 ghost use Rattle.graph_ast.specs.Patterns.{given_by, sequence_given, part_given, body_given};
 ghost use Rattle.pattern_check.specs.Scopes.{using, names_in, body_variables};
 ghost use Rattle.pattern_check.specs.Variables.{row_variables, variables_if};

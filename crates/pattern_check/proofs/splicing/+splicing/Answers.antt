@@ -15,8 +15,10 @@ use Rattle.pattern_check.proofs.splicing.+splicing.Goals as goal
 
 pub add_factors-add_factor-requires : goal.add_factors-add_factor-requires
 add_factors-add_factor-requires t c =
-    let within : c.loop-factor.factor-index < length c.args.factors.now = search rules in
-    (search (rules, the_lemmas), none_given (λ (faults : List Fault). faults) (given_by large) c.args.factors.now c.loop-factor.factor-index c.factor-item.result within c.factor-item.is c.requires)
+    let within : c.loop-factor.factor-index < length c.args.factors.now = search rules in (
+      search (rules, the_lemmas),
+      none_given (λ (faults : List Fault). faults) (given_by large) c.args.factors.now c.loop-factor.factor-index c.factor-item.result within c.factor-item.is c.requires,
+    )
 
 pub add_factors-loop-factor-preserved : goal.add_factors-loop-factor-preserved
 add_factors-loop-factor-preserved t c =
@@ -27,8 +29,10 @@ add_factors-loop-factor-preserved t c =
 
 pub add_operands-add_sequence-requires : goal.add_operands-add_sequence-requires
 add_operands-add_sequence-requires t c =
-    let within : c.loop-operand.operand-index < length c.args.operands.now = search rules in
-    (search (rules, the_lemmas), none_given joined (sequence_given large) c.args.operands.now c.loop-operand.operand-index c.operand-item.result within c.operand-item.is c.requires)
+    let within : c.loop-operand.operand-index < length c.args.operands.now = search rules in (
+      search (rules, the_lemmas),
+      none_given joined (sequence_given large) c.args.operands.now c.loop-operand.operand-index c.operand-item.result within c.operand-item.is c.requires,
+    )
 
 pub add_operands-loop-operand-preserved : goal.add_operands-loop-operand-preserved
 add_operands-loop-operand-preserved t c =
