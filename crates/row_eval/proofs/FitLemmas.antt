@@ -1,5 +1,5 @@
 -- Rows that meet their columns, one after another.
-use Rattle.std.proofs.Common.{◌≡◌, ℕ, suc, zero, ◌+◌, ◌<◌, ◌≤◌, List, [], ◌∷◌, ◌++◌, map, take, drop, length, get_or, refl, sym, ap, subst, ◌∙◌, arith, inl, inr}
+use Rattle.std.proofs.Common.{◌≡◌, ℕ, suc, zero, ◌+◌, ◌<◌, ◌≤◌, List, [], ◌∷◌, ◌++◌, map, take, drop, length, get_or, refl, sym, ap, subst, arith, inl, inr}
 use Rattle.multisets.specs.Bags.{IsIn}
 use Rattle.pgq_base.specs.declared.rows.Row.{Row}
 use Rattle.pgq_base.specs.declared.rows.Rows.{Rows}

@@ -1,6 +1,6 @@
 use Rattle.std.proofs.Common.{◌<◌, length, subst, arith}
 use Rattle.graph_ast.specs.Fits.{IsRowOf}
-use Rattle.row_eval.proofs.FitLemmas.{rows_next, row_next, row_done, rows_there}
+use Rattle.row_eval.proofs.FitLemmas.{rows_next}
 use Rattle.row_eval.proofs.tests.rows_fit.Goals as goal
 
 pub loop-row-preserved : goal.loop-row-preserved
