@@ -17,6 +17,8 @@ mod sorting;
 mod source;
 mod stage;
 mod steps;
+#[cfg(test)]
+mod tests;
 mod ties;
 
 pub use evaluator::{EvalStop, MOST_ROWS, evaluate};
