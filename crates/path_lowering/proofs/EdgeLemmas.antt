@@ -30,7 +30,7 @@ use Rattle.path_lowering.proofs.Truths.{true_in, all_true_in, true_All, true_Any
 use Rattle.path_lowering.proofs.Facts.{in_at, element_valid, key_value}
 use Rattle.path_lowering.proofs.ColumnLemmas.{all_equal}
 
-equally_many : {X Y Z : Type 0} (f : X → Z) (g : Y → Z) (xs : List X) (ys : List Y) → map f xs ≡ map g ys → length xs ≡ length ys
+pub equally_many : {X Y Z : Type 0} (f : X → Z) (g : Y → Z) (xs : List X) (ys : List Y) → map f xs ≡ map g ys → length xs ≡ length ys
 equally_many f g xs ys e = sym (length-map xs f) ∙ ap length e ∙ length-map ys g
 
 crossed : (m n a b : Bool) → ((m && n) && (a && b)) ≡ ((m && a) && (n && b))

@@ -44,7 +44,7 @@ alternating_long x y zero = refl
 alternating_long x y (suc n) = ap suc (alternating_long y x n)
 
 -- a plan has an item for each place
-plan_long : (names : List (List ℕ)) (earlier : List (Tags × ℕ)) (next : ℕ) (tags : List Tags) → length (plan_after names earlier next tags) ≡ length tags
+pub plan_long : (names : List (List ℕ)) (earlier : List (Tags × ℕ)) (next : ℕ) (tags : List Tags) → length (plan_after names earlier next tags) ≡ length tags
 plan_long names earlier next [] = refl
 plan_long names earlier next (t ∷ ts) = go (shared_item names t earlier) (λ seen n. plan_long names seen n ts)
   where
@@ -124,7 +124,7 @@ module _ (catalog : Catalog) (graph : Graph) (valid : IsValidGraph catalog graph
         };
       }
 
-  all_belong : (n : ℕ) (paths : List CheckedPath) (parts : List PathBlock) → ((path : CheckedPath) → IsIn path paths → IsIn path query.paths)
+  pub all_belong : (n : ℕ) (paths : List CheckedPath) (parts : List PathBlock) → ((path : CheckedPath) → IsIn path paths → IsIn path query.paths)
       → AllZip IsIn parts (map (λ (n : ℕ × CheckedPath). path_blocks graph n.0 n.1) (enumerate_from n paths)) → AllZip Belongs paths parts
   all_belong n [] [] among h = tt
   all_belong n [] (p ∷ ps) among h = absurd h
@@ -143,7 +143,7 @@ module _ (catalog : Catalog) (graph : Graph) (valid : IsValidGraph catalog graph
   abbrev tags_in : List PathBlock → List Tags
   tags_in parts = flat_map (λ part. part.tags) parts
 
-  tags_many : (paths : List CheckedPath) (parts : List PathBlock) → AllZip Belongs paths parts → length (tags_in parts) ≡ length (numbers_in parts)
+  pub tags_many : (paths : List CheckedPath) (parts : List PathBlock) → AllZip Belongs paths parts → length (tags_in parts) ≡ length (numbers_in parts)
   tags_many [] [] are = refl
   tags_many [] (p ∷ ps) are = absurd are
   tags_many (path ∷ paths) [] are = absurd are
@@ -265,7 +265,7 @@ module _ (catalog : Catalog) (graph : Graph) (valid : IsValidGraph catalog graph
           let made = from_map (λ parts. record { paths = parts }) block (filter (is_shared query) (combinations (query_path_blocks graph query))) there in
           subst (λ (b : Block). is_shared query b.paths ≡ true) made.2 (from_filter (is_shared query) made.0 (combinations (query_path_blocks graph query)) made.1).1
 
-      some_place : (paths : List CheckedPath) (parts : List PathBlock) → 1 ≤ length paths → AllZip Belongs paths parts → 1 ≤ length (numbers_in parts)
+      pub some_place : (paths : List CheckedPath) (parts : List PathBlock) → 1 ≤ length paths → AllZip Belongs paths parts → 1 ≤ length (numbers_in parts)
       some_place [] parts some are = absurd (omega (arith, some))
       some_place (path ∷ paths) [] some are = absurd are
       some_place (path ∷ paths) (p ∷ ps) some are =

@@ -1,5 +1,5 @@
 -- Lists that are kept, mapped and joined.
-use Rattle.std.proofs.Common.{◌≡◌, Bool, true, false, ◌&&◌, cond, List, [], ◌∷◌, ◌++◌, map, filter, flat_map, refl, sym, ap, ap₂, ◌∙◌, inl, inr}
+use Rattle.std.proofs.Common.{◌≡◌, Bool, true, false, ◌&&◌, cond, List, [], ◌∷◌, ◌++◌, map, filter, flat_map, refl, sym, ap, ap₂, ◌∙◌, inl, inr, append_assoc}
 use Rattle.multisets.specs.Bags.{IsIn}
 
 pub flat_map-each : {A B : Type 0} (f g : A → List B) (xs : List A) → ((x : A) → IsIn x xs → f x ≡ g x) → flat_map f xs ≡ flat_map g xs
@@ -25,6 +25,14 @@ append-nil (x ∷ xs) = ap (λ l. x ∷ l) (append-nil xs)
 pub map-append : {A B : Type 0} (f : A → B) (xs ys : List A) → map f (xs ++ ys) ≡ map f xs ++ map f ys
 map-append f [] ys = refl
 map-append f (x ∷ xs) ys = ap (λ l. f x ∷ l) (map-append f xs ys)
+
+pub map_joined : {A B : Type 0} (f : A → B) (made : List B) (xs ys : List A) → (made ++ map f xs) ++ map f ys ≡ made ++ map f (xs ++ ys)
+map_joined f made xs ys = append_assoc made (map f xs) (map f ys) ∙ ap (λ l. made ++ l) (sym (map-append f xs ys))
+
+pub two_joined : {A B : Type 0} (f : A → B) (front back : List A) (made one two first all whole : List B) → made ≡ whole → one ≡ map f front → two ≡ map f back → first ≡ made ++ one → all ≡ first ++ two
+    → all ≡ whole ++ map f (front ++ back)
+two_joined f front back made one two first all whole m o t fi al =
+    al ∙ ap₂ (λ x y. x ++ y) (fi ∙ ap₂ (λ x y. x ++ y) m o) t ∙ map_joined f whole front back
 
 pub map-flat_map : {A B C : Type 0} (g : B → C) (f : A → List B) (xs : List A) → map g (flat_map f xs) ≡ flat_map (λ x. map g (f x)) xs
 map-flat_map g f [] = refl

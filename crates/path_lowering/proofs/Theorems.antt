@@ -44,7 +44,7 @@ rows_once catalog instance fits element valid =
     (λ row h. ap not (without_null key.columns row (λ c k. key_value catalog instance fits element valid row h c ((valid.unique.2 c).0 k))))
     ((fits.rows element.table valid.table_there).keys key valid.unique.1)
 
-first_item : (names : List (List ℕ)) (tags : List Tags) (spots : List Spot) → 1 ≤ length spots → length tags ≡ length spots → map (λ spot. spot.item) spots ≡ plan_of names tags → 1 ≤ length (own_spots 0 spots)
+pub first_item : (names : List (List ℕ)) (tags : List Tags) (spots : List Spot) → 1 ≤ length spots → length tags ≡ length spots → map (λ spot. spot.item) spots ≡ plan_of names tags → 1 ≤ length (own_spots 0 spots)
 first_item names tags [] some many is = absurd (omega arith)
 first_item names [] (s ∷ ss) some many is = absurd (omega arith)
 first_item names (t ∷ ts) (s ∷ ss) some many is =

@@ -174,7 +174,10 @@ pub(crate) fn key_side<'a>(scene: &Scene<'a>, spot: &Spot) -> Side<'a>
 }
 
 /// The OR of the members; one alone stands for itself.
-fn any_of(alloc: Global, members: Vec<Expr<ColumnLeaf>>) -> Result<Expr<ColumnLeaf>, NoMemory>
+pub(crate) fn any_of(
+    alloc: Global,
+    members: Vec<Expr<ColumnLeaf>>,
+) -> Result<Expr<ColumnLeaf>, NoMemory>
     ensures { IfOk result (λ made. made ≡ any_of_all members.items) }
 {
     let mut members = members;
