@@ -1,6 +1,6 @@
 -- What all alternatives share and the rest of each are the alternatives.
-use Rattle.std.proofs.Common.{◌≡◌, ◌↔◌, ◌⊎◌, Bool, true, false, not, ◌||◌, cond, ℕ, ◌≤◌, List, [], ◌∷◌, map, filter, length, arith, ap₂, refl, sym, ap, subst, ◌∙◌, inl, inr}
-use Rattle.std.specs.List.{list_all, list_any}
+use Rattle.std.proofs.Common.{◌≡◌, ◌↔◌, ◌⊎◌, Bool, true, false, not, ◌||◌, ◌≤◌, List, [], ◌∷◌, map, filter, length, arith, ap₂, refl, sym, ap, subst, ◌∙◌, inl, inr}
+use Rattle.std.specs.List.{list_any}
 use Rattle.multisets.specs.Bags.{IsIn}
 use Rattle.path_lowering.specs.Emitted.{SqlCondition}
 use Rattle.path_lowering.specs.Blocks.{SaysAny, AreSplit, shared_outside}

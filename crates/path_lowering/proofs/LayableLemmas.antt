@@ -1,5 +1,5 @@
 -- What is known of the places of a path block that is laid along them.
-use Rattle.std.proofs.Common.{◌≡◌, ℕ, zero, suc, ◌+◌, ◌*◌, ◌-◌, ◌<◌, ◌≤◌, ◌^◌, Bool, true, false, ◌&&◌, ◌||◌, List, [], ◌∷◌, map, flat_map, length, get_or, slice_get, refl, sym, ap, ap₂, subst, ◌∙◌, inl, inr, arith, Option, None, Some, option_map, nat_eq, cond}
+use Rattle.std.proofs.Common.{◌≡◌, ℕ, zero, suc, ◌+◌, ◌*◌, ◌-◌, ◌<◌, ◌≤◌, Bool, true, false, ◌&&◌, List, [], ◌∷◌, flat_map, length, get_or, slice_get, refl, sym, ap, ap₂, subst, ◌∙◌, inl, inr, arith, None, Some, option_map, nat_eq}
 use Rattle.std.proofs.lemmas.Bool.{eqb-true, and_parts}
 use Rattle.std.proofs.lemmas.Option.{slice_get-map, get_or_from_slice_get, slice_get-get_or}
 use Rattle.std.specs.List.{list_all}
@@ -18,12 +18,12 @@ use Rattle.graph_ast.specs.declared.query.Direction.{Direction}
 use Rattle.graph_ast.specs.declared.query.Direction.TheVariants.{Right, Left, Either, Any as AnyDirection, Undirected}
 use Rattle.graph_ast.specs.declared.blocks.Alternative.{Alternative}
 use Rattle.graph_ast.specs.declared.blocks.PathBlock.{PathBlock}
-use Rattle.graph_ast.specs.Lookups.{graph_at, table_at, vertex_element, edge_element, no_element, classes_at}
-use Rattle.graph_ast.specs.Catalogs.{IsValidElement, IsValidEnd, IsValidGraph}
+use Rattle.graph_ast.specs.Lookups.{graph_at, vertex_element, edge_element, no_element}
+use Rattle.graph_ast.specs.Catalogs.{IsValidEnd, IsValidGraph}
 use Rattle.graph_ast.specs.Labels.{holds_where_given}
 use Rattle.graph_meaning.specs.Readings.{allows}
-use Rattle.graph_meaning.specs.Choices.{PlacedPiece, edges_in, placed, iterations, operand_at, expansion_of, place_count}
-use Rattle.graph_meaning.specs.Blocks.{may_lead, may_meet, may_meet_piece, is_feasible}
+use Rattle.graph_meaning.specs.Choices.{PlacedPiece, edges_in, placed, iterations, operand_at, expansion_of}
+use Rattle.graph_meaning.specs.Blocks.{may_lead, may_meet, may_meet_piece}
 use Rattle.path_lowering.specs.declared.spots.Kind.{Kind}
 use Rattle.path_lowering.specs.declared.spots.Kind.TheVariants.{Vertex, Edge}
 use Rattle.path_lowering.specs.declared.spots.Spot.{Spot}
@@ -31,7 +31,7 @@ use Rattle.path_lowering.specs.Spots.{element_of_kind, element_at, spots_along}
 use Rattle.path_lowering.specs.Emitted.{goes_right, goes_left, edge_conditions, between}
 use Rattle.path_lowering.specs.Shortest.{spot_at}
 use Rattle.path_lowering.specs.Shown.{count_of_kind, AreColumnsIn, IsEndOf, IsJoint, HasProperties, HasKey}
-use Rattle.path_lowering.specs.Unrolled.{may_go_right, may_go_left, IsReadable, IsBetween, IsPieceAt}
+use Rattle.path_lowering.specs.Unrolled.{IsReadable, IsBetween, IsPieceAt}
 use Rattle.path_lowering.specs.Layable.{IsLayable}
 use Rattle.path_lowering.proofs.Facts.{in_at, element_valid}
 use Rattle.path_lowering.proofs.EdgeLemmas.{equally_many}

@@ -1,18 +1,15 @@
 -- The test of two conditions decides whether they are equal.
-use Rattle.std.proofs.Common.{◌≡◌, ℕ, zero, suc, Bool, true, false, ◌&&◌, nat_eq, List, [], ◌∷◌, map, get_or, refl, sym, ap, ap₂, subst, ◌∙◌, arith, bytes_eq, ◌↔◌}
+use Rattle.std.proofs.Common.{◌≡◌, ℕ, Bool, true, false, ◌&&◌, List, [], ◌∷◌, map, get_or, refl, sym, ap, ap₂, subst, ◌∙◌, ◌↔◌}
 use Rattle.std.proofs.lemmas.Bool.{and_parts, eqb-true, eq-eqb}
 use Rattle.std.proofs.lemmas.Slice.Eq.{bytes_eq-Decides}
-use Rattle.pgq_base.specs.declared.value.Value.{Value}
-use Rattle.pgq_base.specs.declared.value.Value.TheVariants as value
 use Rattle.pgq_base.specs.declared.value.Class.{Class}
 use Rattle.pgq_base.specs.declared.value.Class.TheVariants as class
-use Rattle.pgq_base.specs.Instances.{same_value}
 use Rattle.pgq_base.proofs.ValueOrder.{same_value_decides}
 use Rattle.expr_tree.specs.declared.tree.Comparison.{Comparison}
 use Rattle.expr_tree.specs.declared.tree.Comparison.TheVariants.{Equal, NotEqual, Less, LessOrEqual, Greater, GreaterOrEqual}
 use Rattle.expr_tree.specs.declared.tree.Test.{Test}
 use Rattle.expr_tree.specs.declared.tree.Test.TheVariants as test
-use Rattle.expr_tree.specs.declared.tree.Expr.{Expr, Expr-F, out-Expr, roll-Expr, out-roll-Expr, roll-out-Expr, map-Expr, fold-Expr, fold-roll-Expr, ind-Expr}
+use Rattle.expr_tree.specs.declared.tree.Expr.{Expr-F, out-Expr, roll-Expr, out-roll-Expr, roll-out-Expr, map-Expr, fold-roll-Expr, ind-Expr}
 use Rattle.sql_algebra.specs.declared.tree.ColumnLeaf.{ColumnLeaf}
 use Rattle.path_lowering.specs.Emitted.{SqlCondition}
 use Rattle.path_lowering.specs.Sameness.{number_of_class, number_of_comparison, number_of_test, number_of_truth, Node, node_of, same_leaf, all_met, same_node, same_condition}

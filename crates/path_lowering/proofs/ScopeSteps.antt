@@ -1,5 +1,5 @@
 -- What a variable of some element patterns holds is at one of the places.
-use Rattle.std.proofs.Common.{◌≡◌, ℕ, List, Option, None, Some, IfSome, sym, ◌∙◌, slice_get}
+use Rattle.std.proofs.Common.{◌≡◌, ℕ, List, Option, None, Some, IfSome, sym, slice_get}
 use Rattle.multisets.specs.Bags.{IsIn}
 use Rattle.graph_meaning.specs.Choices.{PlacedPiece}
 use Rattle.graph_meaning.specs.Conditions.{place_in}

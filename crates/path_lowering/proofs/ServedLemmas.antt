@@ -1,5 +1,5 @@
 -- A graph block of a query that can be lowered is ready to be laid.
-use Rattle.std.proofs.Common.{◌≡◌, ℕ, zero, suc, ◌+◌, ◌*◌, ◌≤◌, ◌<◌, ◌^◌, Bool, true, false, ◌&&◌, ◌||◌, List, [], ◌∷◌, ◌++◌, map, flat_map, length, refl, sym, ap, ap₂, subst, ◌∙◌, inl, inr, arith, nat_eq, Option, None, Some, length-append}
+use Rattle.std.proofs.Common.{◌≡◌, ℕ, ◌+◌, ◌*◌, ◌≤◌, ◌<◌, ◌^◌, Bool, true, List, [], ◌∷◌, map, flat_map, length, refl, sym, ap, ap₂, subst, ◌∙◌, inl, inr, arith, nat_eq, length-append}
 use Rattle.std.specs.List.{AllZip, enumerate_from, list_all}
 use Rattle.std.proofs.Math.ListN.{length-map}
 use Rattle.std.proofs.lemmas.Bool.{eqb-true}
@@ -26,7 +26,7 @@ use Rattle.graph_meaning.proofs.GraphRows.{block_picks}
 use Rattle.path_lowering.specs.declared.spots.Kind.{Kind}
 use Rattle.path_lowering.specs.declared.spots.Kind.TheVariants.{Vertex, Edge}
 use Rattle.path_lowering.specs.declared.spots.Spot.{Spot}
-use Rattle.path_lowering.specs.Spots.{element_of_kind, element_at, same_kind, spots_along}
+use Rattle.path_lowering.specs.Spots.{element_of_kind, same_kind, spots_along}
 use Rattle.path_lowering.specs.Blocks.{laid_tags, laid_spots, own_spots, source_of}
 use Rattle.path_lowering.specs.Selects.{IsBlockLaid}
 use Rattle.path_lowering.specs.Lowered.{laid_block}

@@ -1,5 +1,5 @@
 -- When two conditions are the same tree, as a test.
-use Rattle.std.specs.Prelude.{ℕ, pos, ◌&&◌, Bool, true, false, nat_eq, List, [], ◌∷◌, bytes_eq}
+use Rattle.std.specs.Prelude.{ℕ, ◌&&◌, Bool, true, false, nat_eq, List, [], ◌∷◌, bytes_eq}
 use Rattle.pgq_base.specs.declared.value.Value.{Value}
 use Rattle.pgq_base.specs.declared.value.Value.TheVariants as value
 use Rattle.pgq_base.specs.declared.value.Class.{Class}

@@ -1,4 +1,4 @@
-use Rattle.std.proofs.Common.{◌≡◌, IfOk, map, length, ap, sym, subst, ◌∙◌, Vec, Global, arith}
+use Rattle.std.proofs.Common.{◌≡◌, IfOk, map, sym, subst, Vec, Global, arith}
 use Rattle.std.proofs.Math.ListN.{length-map}
 use Rattle.path_lowering.specs.Emitted.{SqlCondition}
 use Rattle.path_lowering.proofs.ApartLemmas.{apart_alone, apart_several}

@@ -1,4 +1,4 @@
-use Rattle.std.proofs.Common.{◌≡◌, IfOk, map, ap, sym, subst, ◌∙◌, Vec, Global}
+use Rattle.std.proofs.Common.{◌≡◌, IfOk, map, ap, subst, Vec, Global}
 use Rattle.path_lowering.specs.Emitted.{SqlCondition}
 use Rattle.path_lowering.proofs.ApartLemmas.{split_is}
 use Rattle.path_lowering.proofs.alternatives.split.Goals as goal

@@ -1,4 +1,3 @@
-use Rattle.std.proofs.Common.{◌≡◌}
 use Rattle.path_lowering.proofs.MemberSteps.{item_in}
 use Rattle.path_lowering.proofs.blocks.alternatives_of.Goals as goal
 

@@ -1,4 +1,4 @@
-use Rattle.std.proofs.Common.{◌≡◌, List, subst}
+use Rattle.std.proofs.Common.{List, subst}
 use Rattle.multisets.specs.Bags.{IsIn}
 use Rattle.graph_ast.specs.declared.blocks.Alternative.{Alternative}
 use Rattle.path_lowering.proofs.blocks.path_conditions.Goals as goal

@@ -1,7 +1,5 @@
 use Rattle.std.proofs.Common.{◌≡◌, ◌≤◌, IfOk, List, ℕ, map, length, ap, ap₂, sym, subst, ◌∙◌, Bor}
 use Rattle.multisets.specs.Bags.{IsIn}
-use Rattle.pgq_base.specs.declared.name.Name.{Name}
-use Rattle.graph_ast.specs.declared.blocks.Tags.{Tags}
 use Rattle.graph_meaning.specs.Lists.{tagged}
 use Rattle.path_lowering.specs.declared.properties.Place.{Place}
 use Rattle.path_lowering.specs.declared.spots.Spot.{Spot}

@@ -1,4 +1,4 @@
-use Rattle.std.proofs.Common.{◌≡◌, IfOk, subst, sym, arith}
+use Rattle.std.proofs.Common.{◌≡◌, IfOk, subst, sym}
 use Rattle.path_lowering.proofs.LayableLemmas.{between_is}
 use Rattle.path_lowering.proofs.choices.edge_at.Goals as goal
 

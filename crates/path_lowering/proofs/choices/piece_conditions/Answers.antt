@@ -1,4 +1,3 @@
-use Rattle.std.proofs.Common.{◌≡◌, sym}
 use Rattle.path_lowering.proofs.choices.piece_conditions.Goals as goal
 
 pub edge_at-requires-clause-between : goal.edge_at-requires-clause-between

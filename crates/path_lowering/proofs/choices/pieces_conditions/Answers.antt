@@ -1,4 +1,3 @@
-use Rattle.std.proofs.Common.{◌≡◌, map}
 use Rattle.path_lowering.proofs.Facts.{in_map}
 use Rattle.path_lowering.proofs.MemberSteps.{item_in}
 use Rattle.path_lowering.proofs.choices.pieces_conditions.Goals as goal

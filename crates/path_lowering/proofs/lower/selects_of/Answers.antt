@@ -1,4 +1,3 @@
-use Rattle.std.proofs.Common.{◌≡◌}
 use Rattle.path_lowering.specs.Lowered.{select_of_block}
 use Rattle.path_lowering.specs.Apart.{apart}
 use Rattle.path_lowering.proofs.MemberSteps.{item_in}

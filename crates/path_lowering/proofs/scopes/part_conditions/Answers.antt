@@ -1,7 +1,7 @@
-use Rattle.std.proofs.Common.{◌≡◌, ◌+◌, ◌*◌, ◌++◌, map, ap, ap₂, sym, ◌∙◌, arith, rules}
-use Rattle.graph_meaning.specs.Choices.{edges_in, placed, scoped_by, Iteration}
-use Rattle.path_lowering.specs.Emitted.{SqlCondition, scoped_condition}
-use Rattle.path_lowering.proofs.UnrolledLemmas.{product_next, product_step, part_on}
+use Rattle.std.proofs.Common.{arith, rules}
+use Rattle.graph_meaning.specs.Choices.{edges_in}
+use Rattle.path_lowering.specs.Emitted.{scoped_condition}
+use Rattle.path_lowering.proofs.UnrolledLemmas.{product_next, part_on}
 use Rattle.path_lowering.proofs.scopes.part_conditions.Goals as goal
 
 pub loop-turn-preserved : goal.loop-turn-preserved

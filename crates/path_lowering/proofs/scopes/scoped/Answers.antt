@@ -1,4 +1,4 @@
-use Rattle.std.proofs.Common.{◌≡◌, map, sym, ap, ◌∙◌, rules}
+use Rattle.std.proofs.Common.{map, rules}
 use Rattle.expr_tree.specs.Leaves.{leaves_in}
 use Rattle.expr_tree.proofs.Folds.{each_from_all}
 use Rattle.path_lowering.specs.Emitted.{lowered_leaf, spot_in}

@@ -1,4 +1,4 @@
-use Rattle.std.proofs.Common.{◌≡◌, map}
+use Rattle.std.proofs.Common.{map}
 use Rattle.path_lowering.specs.Shown.{HasProperties}
 use Rattle.path_lowering.proofs.ScopeSteps.{scoped_there}
 use Rattle.path_lowering.proofs.scopes.fn.scoped.map_leaves.Goals as goal
