@@ -118,6 +118,7 @@ names_apart (n ∷ ns) h = and_join _ _ (ap not (not_among n ns h.0)) (names_apa
 -- a place is there, and the item of its number is in reach, with its element's table
 pub record IsReached (catalog : Catalog) (graph : Graph) (prefix : ℕ) (reach : Reach) (spot : Spot) : Type 0 where
   pub there : spot.element < count_of_kind graph spot.kind
+  pub low : spot.item < 2 ^ 32
   pub item : FromItem
   pub found : find (λ item. bytes_eq item.alias (alias_of prefix spot.item)) reach ≡ Some item
   pub table : item.table ≡ (table_at catalog (element_at graph spot).table).name
@@ -227,6 +228,7 @@ module _ (catalog : Catalog) (graph : Graph) (prefix : ℕ) (names : List (List 
       let zeroth : spot.item ≡ 0 + spot.item = omega arith in
       record {
         there = ok.elements spot h;
+        low = (let n = own_few catalog graph prefix 0 spots in let few = ok.few in omega (arith, below, many_items, n, few));
         item = get_or items spot.item no_item;
         found = ap (λ n. find (λ item. bytes_eq item.alias (alias_of prefix n)) (items ++ outer)) zeroth ∙ item_found prefix items outer 0 spot.item no_item numbered below few_items;
         table = sym (get_or-map (λ item. item.table) items spot.item no_item [] below) ∙ ap (λ l. get_or l spot.item []) names_are ∙ place.1;
@@ -235,7 +237,7 @@ module _ (catalog : Catalog) (graph : Graph) (prefix : ℕ) (names : List (List 
   pub aliases_apart : differ_from [] (map (λ item. item.alias) items) ≡ true
   aliases_apart = aliases_differ prefix 0 items numbered few_items
 
-  own_in : (next : ℕ) (some : List Spot) (spot : Spot) → IsIn spot (own_spots next some) → IsIn spot some
+  pub own_in : (next : ℕ) (some : List Spot) (spot : Spot) → IsIn spot (own_spots next some) → IsIn spot some
   own_in next [] spot h = absurd h
   own_in next (s ∷ ss) spot h = go (nat_eq s.item next) h (own_in (suc next) ss spot) (own_in next ss spot)
     where
