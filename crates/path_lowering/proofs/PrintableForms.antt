@@ -1,7 +1,6 @@
 -- When expressions over columns, and aliases, have a text.
-use Rattle.std.proofs.Common.{◌≡◌, ℕ, ◌<◌, ◌≤◌, ◌^◌, Bool, true, ◌&&◌, List, [], ◌∷◌, map, length, refl, sym, ap, subst, ◌∙◌, decimal, nat_le, arith}
+use Rattle.std.proofs.Common.{◌≡◌, ℕ, ◌<◌, ◌≤◌, ◌^◌, Bool, true, ◌&&◌, List, map, length, sym, subst, ◌∙◌, decimal, arith}
 use Rattle.std.specs.List.{list_all}
-use Rattle.std.specs.Str.{is_utf8}
 use Rattle.std.proofs.Math.ListN.{length-map}
 use Rattle.std.proofs.lemmas.Bool.{le-leb}
 use Rattle.std.proofs.lemmas.Fmt.{IsAscii-decimal, length-decimal-le}
@@ -11,7 +10,7 @@ use Rattle.std.proofs.lemmas.Str.Ascii.{IsAscii-cons}
 use Rattle.pgq_base.specs.declared.value.Class.{Class}
 use Rattle.pgq_base.specs.declared.value.Value.TheVariants as value
 use Rattle.expr_tree.specs.declared.tree.Comparison.{Comparison}
-use Rattle.expr_tree.specs.declared.tree.Expr.{Expr, Expr-F, map-Expr}
+use Rattle.expr_tree.specs.declared.tree.Expr.{Expr-F, map-Expr}
 use Rattle.expr_tree.specs.declared.tree.Expr.TheVariants as v
 use Rattle.expr_tree.specs.Leaves.{EachLeaf}
 use Rattle.expr_tree.specs.Mapping.{map_step, mapped}

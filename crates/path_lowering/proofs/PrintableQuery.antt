@@ -1,5 +1,5 @@
 -- The lowered query has a text.
-use Rattle.std.proofs.Common.{◌≡◌, ◌≤◌, true, false, ◌&&◌, List, [], ◌∷◌, map, length, refl, sym, ap, subst, ◌∙◌, inl, inr, arith}
+use Rattle.std.proofs.Common.{◌≡◌, ◌≤◌, true, false, List, [], ◌∷◌, map, length, refl, sym, ap, subst, ◌∙◌, inl, inr, arith}
 use Rattle.std.specs.List.{list_all}
 use Rattle.std.proofs.Math.ListN.{length-map}
 use Rattle.pgq_base.specs.declared.value.Value.TheVariants.{Truth}
@@ -16,8 +16,6 @@ use Rattle.graph_ast.specs.Lookups.{graph_at, vertex_element}
 use Rattle.graph_meaning.specs.Answers.{query_singletons}
 use Rattle.graph_meaning.specs.Blocks.{blocks}
 use Rattle.sql_algebra.specs.declared.tree.Select.{Select}
-use Rattle.sql_algebra.specs.declared.tree.FromItem.{FromItem}
-use Rattle.sql_algebra.specs.declared.tree.SelectColumn.{SelectColumn}
 use Rattle.sql_algebra.specs.Printable.{select_is_printable, column_is_printable, IsPrintable}
 use Rattle.path_lowering.specs.Adding.{null_of}
 use Rattle.path_lowering.specs.Blocks.{Laid}

@@ -1,8 +1,7 @@
 -- The SELECT of a block that is laid out has a text.
-use Rattle.std.proofs.Common.{◌≡◌, ℕ, suc, ◌<◌, ◌≤◌, ◌^◌, Bool, true, false, ◌&&◌, List, [], ◌∷◌, ◌++◌, map, length, refl, sym, ap, subst, ◌∙◌, inl, inr, Option, None, Some, arith}
+use Rattle.std.proofs.Common.{◌≡◌, ℕ, suc, ◌<◌, ◌≤◌, Bool, true, false, ◌&&◌, List, [], ◌∷◌, ◌++◌, map, length, refl, sym, ap, subst, ◌∙◌, inl, inr, Option, None, Some, arith}
 use Rattle.std.specs.List.{list_all}
 use Rattle.std.proofs.Math.ListN.{length-map}
-use Rattle.std.proofs.lemmas.List.Folds.{list_all-map}
 use Rattle.pgq_base.specs.declared.value.Value.TheVariants as value
 use Rattle.multisets.specs.Bags.{IsIn}
 use Rattle.expr_tree.specs.declared.tree.Expr.TheVariants.{Lit, Null, Leaf}
@@ -19,7 +18,6 @@ use Rattle.graph_ast.specs.Catalogs.{IsValidCatalog, IsValidGraph}
 use Rattle.graph_ast.specs.Lookups.{table_at, column_at, column_of}
 use Rattle.graph_meaning.specs.Choices.{Condition, Scoped, expansion_of}
 use Rattle.sql_algebra.specs.declared.tree.Select.{Select}
-use Rattle.sql_algebra.specs.declared.tree.FromItem.{FromItem}
 use Rattle.sql_algebra.specs.declared.tree.Conjunct.{Conjunct}
 use Rattle.sql_algebra.specs.declared.tree.Conjunct.TheVariants.{Plain}
 use Rattle.sql_algebra.specs.Printable.{is_name, has_one, all_true, value_is_printable, item_is_printable, begins_chain, column_is_printable, conjunct_step, select_step, select_is_printable}
@@ -29,7 +27,7 @@ use Rattle.path_lowering.specs.declared.placing.Source.{Source}
 use Rattle.path_lowering.specs.declared.spots.Spot.{Spot}
 use Rattle.path_lowering.specs.Spots.{element_at}
 use Rattle.path_lowering.specs.Emitted.{SqlCondition, leaf_of, lowered_property, lowered_leaf, lowered, spot_by}
-use Rattle.path_lowering.specs.Placed.{standing_by, or_true, joined_items, from_of, where_of}
+use Rattle.path_lowering.specs.Placed.{standing_by, or_true, joined_items, from_of}
 use Rattle.path_lowering.specs.Blocks.{Laid, laid_tags, laid_spots, own_spots, source_of, sources_of, alternatives_of, column_for, block_conditions}
 use Rattle.path_lowering.specs.Selects.{select_for, IsBlockLaid}
 use Rattle.path_lowering.specs.Lowered.{Combining}

@@ -1,5 +1,5 @@
 -- The conditions of a block hold what comparisons of its columns hold, and what the query's own conditions hold when lowered.
-use Rattle.std.proofs.Common.{◌≡◌, ℕ, ◌+◌, ◌*◌, ◌<◌, ◌≤◌, Bool, true, ◌&&◌, List, [], ◌∷◌, ◌++◌, map, flat_map, length, refl, sym, ap, subst, ◌∙◌, inl, inr, Option, None, Some, arith}
+use Rattle.std.proofs.Common.{◌≡◌, ℕ, ◌+◌, ◌*◌, ◌≤◌, Bool, true, List, [], ◌∷◌, ◌++◌, map, flat_map, length, refl, sym, ap, subst, ◌∙◌, inl, inr, Option, None, Some, arith}
 use Rattle.std.specs.Prelude.{slice_get}
 use Rattle.std.specs.List.{list_all}
 use Rattle.std.proofs.Math.ListN.{length-map}
@@ -23,7 +23,7 @@ use Rattle.path_lowering.specs.declared.spots.Spot.{Spot}
 use Rattle.path_lowering.specs.Spots.{spots_along}
 use Rattle.path_lowering.specs.Emitted.{SqlCondition, lowered, spot_in, spot_by, piece_conditions, scoped_condition, choice_conditions, mode_conditions, sharing_conditions}
 use Rattle.path_lowering.specs.Blocks.{Laid, IsPart, laid_tags, laid_spots, alternatives_of, where_for, block_conditions}
-use Rattle.path_lowering.specs.Selects.{IsLaidOut, IsBlockLaid}
+use Rattle.path_lowering.specs.Selects.{IsBlockLaid}
 use Rattle.path_lowering.specs.Lowered.{Combining}
 use Rattle.path_lowering.specs.Sound.{IsBuilding}
 use Rattle.path_lowering.proofs.BlockLemmas.{vertex_seat, edge_seat, numbers_along}

@@ -1,5 +1,5 @@
 -- The conditions of a block are made of comparisons of columns of one class: what holds of these, and is kept by AND and OR, holds of all.
-use Rattle.std.proofs.Common.{◌≡◌, ℕ, zero, suc, ◌+◌, ◌-◌, ◌*◌, ◌<◌, ◌≤◌, Bool, true, false, ◌&&◌, ◌||◌, not, cond, List, [], ◌∷◌, ◌++◌, map, filter, flat_map, length, refl, sym, ap, ap₂, subst, ◌∙◌, inl, inr, nat_eq, Option, None, Some, option_map, arith}
+use Rattle.std.proofs.Common.{◌≡◌, ℕ, suc, ◌+◌, ◌-◌, ◌*◌, ◌<◌, ◌≤◌, Bool, true, false, ◌&&◌, not, cond, List, [], ◌∷◌, ◌++◌, map, filter, flat_map, length, refl, sym, ap, ap₂, subst, ◌∙◌, inl, inr, nat_eq, None, Some, option_map, arith}
 use Rattle.std.specs.Prelude.{slice_get}
 use Rattle.std.specs.List.{list_all, list_any}
 use Rattle.std.proofs.lemmas.Bool.{and_parts, eqb-true}
@@ -27,7 +27,7 @@ use Rattle.graph_ast.specs.Labels.{holds_where_given}
 use Rattle.graph_ast.specs.Lookups.{table_at, vertex_element, edge_element, no_element, classes_at}
 use Rattle.graph_meaning.specs.Bindings.{without_last}
 use Rattle.graph_meaning.specs.Blocks.{may_lead, may_meet, may_meet_piece}
-use Rattle.graph_meaning.specs.Choices.{PlacedPiece, edges_in, placed}
+use Rattle.graph_meaning.specs.Choices.{edges_in, placed}
 use Rattle.graph_meaning.specs.Lists.{agree, all_same, tagged}
 use Rattle.graph_meaning.specs.Readings.{allows}
 use Rattle.graph_meaning.proofs.Members.{same_head, same_rest}
@@ -42,7 +42,6 @@ use Rattle.path_lowering.specs.Apart.{is_in_all, without, apart}
 use Rattle.path_lowering.specs.Lowered.{in_one}
 use Rattle.path_lowering.specs.Sound.{IsBuilding}
 use Rattle.path_lowering.proofs.ConditionLemmas.{tagged_map, tagged_in}
-use Rattle.path_lowering.proofs.EdgeLemmas.{equally_many}
 use Rattle.path_lowering.proofs.Facts.{in_at, in_map, element_valid}
 use Rattle.path_lowering.proofs.PieceLemmas.{Seat, numbers_at, got_in}
 use Rattle.path_lowering.proofs.PlacingLemmas.{and_join, each_of, of_each, in_kept}

@@ -1,5 +1,5 @@
 -- When expressions over columns are sound in the reach of some items.
-use Rattle.std.proofs.Common.{◌≡◌, Bool, true, ◌&&◌, List, [], ◌∷◌, ◌++◌, map, flat_map, refl, sym, ap, ap₂, ◌∙◌}
+use Rattle.std.proofs.Common.{◌≡◌, Bool, true, List, [], ◌∷◌, ◌++◌, map, flat_map, refl, sym, ap, ap₂, ◌∙◌}
 use Rattle.std.specs.List.{AllByRecursion, list_all}
 use Rattle.std.proofs.lemmas.Bool.{and_parts}
 use Rattle.std.proofs.lemmas.List.Folds.{list_all-append}
@@ -9,10 +9,10 @@ use Rattle.pgq_base.specs.declared.value.Value.TheVariants as value
 use Rattle.expr_tree.specs.declared.tree.Comparison.{Comparison}
 use Rattle.expr_tree.specs.declared.tree.Expr.{Expr}
 use Rattle.expr_tree.specs.declared.tree.Expr.TheVariants.{Null, Lit, Leaf, Compare, All, Any}
-use Rattle.expr_tree.specs.Classes.{same_class, class_step, class_in, Judgement, judged_step, judged, well_classed}
+use Rattle.expr_tree.specs.Classes.{same_class, class_step, class_in, judged_step, judged, well_classed}
 use Rattle.expr_tree.specs.Leaves.{joined, leaves_step, leaves_in, EachLeaf}
 use Rattle.expr_tree.specs.Mapping.{mapped, KeepsClass}
-use Rattle.expr_tree.proofs.ClassLemmas.{same_self, same_from}
+use Rattle.expr_tree.proofs.ClassLemmas.{same_self}
 use Rattle.expr_tree.proofs.Folds.{each_implies}
 use Rattle.expr_tree.proofs.JudgementLemmas.{judged_class}
 use Rattle.expr_tree.proofs.LawLemmas.{mapped_class, mapped_rules, mapped_leaves}

@@ -1,10 +1,10 @@
 -- Conditions that are sound in the reach of a whole FROM are sound where they are placed.
-use Rattle.std.proofs.Common.{◌≡◌, ℕ, zero, suc, ◌+◌, ◌<◌, ◌≤◌, Bool, true, false, ◌&&◌, cond, List, [], ◌∷◌, ◌++◌, map, length, refl, sym, ap, ap₂, subst, ◌∙◌, inl, inr, Option, None, Some, ◌⊎◌, bytes_eq, nat_eq, nat_lt, arith, append_assoc}
+use Rattle.std.proofs.Common.{◌≡◌, ℕ, suc, ◌<◌, ◌≤◌, Bool, true, false, ◌&&◌, cond, List, [], ◌∷◌, ◌++◌, map, length, refl, sym, ap, ◌∙◌, inl, inr, Option, None, Some, ◌⊎◌, bytes_eq, nat_eq, nat_lt, arith, append_assoc}
 use Rattle.std.specs.Prelude.{find}
 use Rattle.std.proofs.lemmas.List.{length-append}
 use Rattle.std.proofs.Math.ListN.{length-map}
 use Rattle.std.specs.List.{list_all}
-use Rattle.std.proofs.lemmas.Bool.{and_parts, eqb-true}
+use Rattle.std.proofs.lemmas.Bool.{eqb-true}
 use Rattle.pgq_base.specs.declared.value.Class.TheVariants as class
 use Rattle.pgq_base.specs.Tables.{place_of}
 use Rattle.multisets.specs.Bags.{IsIn}

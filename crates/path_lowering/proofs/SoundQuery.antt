@@ -1,21 +1,20 @@
 -- The lowered query is sound in the catalog.
-use Rattle.std.proofs.Common.{◌≡◌, ℕ, ◌+◌, ◌≤◌, Bool, true, ◌&&◌, List, [], ◌∷◌, map, filter, drop, length, refl, sym, ap, ap₂, subst, ◌∙◌, inl, inr, is_some, arith}
+use Rattle.std.proofs.Common.{◌≡◌, ℕ, ◌+◌, ◌≤◌, true, List, [], ◌∷◌, map, filter, drop, length, refl, sym, ap, ap₂, subst, ◌∙◌, inl, inr, is_some, arith}
 use Rattle.std.specs.List.{AllZip, enumerate_from, list_all}
 use Rattle.pgq_base.specs.declared.value.Class.{Class}
-use Rattle.multisets.specs.Bags.{IsIn, IsWithoutRepeats}
-use Rattle.expr_tree.specs.Classes.{same_class, class_in}
+use Rattle.multisets.specs.Bags.{IsIn}
+use Rattle.expr_tree.specs.Classes.{class_in}
 use Rattle.expr_tree.proofs.ClassLemmas.{same_self}
 use Rattle.graph_ast.specs.declared.catalog.Catalog.{Catalog}
 use Rattle.graph_ast.specs.declared.catalog.Graph.{Graph}
 use Rattle.graph_ast.specs.declared.checked.CheckedPath.{CheckedPath}
 use Rattle.graph_ast.specs.declared.checked.CheckedQuery.{CheckedQuery}
-use Rattle.graph_ast.specs.declared.checked.Output.{Output}
 use Rattle.graph_ast.specs.declared.blocks.Alternative.{Alternative}
 use Rattle.graph_ast.specs.declared.blocks.Block.{Block}
 use Rattle.graph_ast.specs.declared.blocks.PathBlock.{PathBlock}
 use Rattle.graph_ast.specs.Catalogs.{IsValidGraph}
 use Rattle.graph_ast.specs.Fits.{Fits, without_rows}
-use Rattle.graph_ast.specs.Lookups.{graph_at, table_at, vertex_element}
+use Rattle.graph_ast.specs.Lookups.{graph_at, vertex_element}
 use Rattle.graph_meaning.specs.Answers.{query_singletons}
 use Rattle.graph_meaning.specs.Bindings.{same_tags, choices_with}
 use Rattle.graph_meaning.specs.Blocks.{block_of, is_feasible, path_blocks, blocks, shapes}
@@ -25,8 +24,7 @@ use Rattle.graph_meaning.proofs.BlockRows.{alternative_is}
 use Rattle.graph_meaning.proofs.GraphRows.{block_picks}
 use Rattle.graph_meaning.proofs.Members.{from_map}
 use Rattle.sql_algebra.specs.declared.tree.Select.{Select}
-use Rattle.sql_algebra.specs.Soundness.{Reach, leaf_class, value_is_sound, differ_from, select_is_sound, classes_of, same_classes, selects_agree, IsSound}
-use Rattle.sql_algebra.specs.Catalogs.{table_named}
+use Rattle.sql_algebra.specs.Soundness.{value_is_sound, differ_from, select_is_sound, classes_of, same_classes, selects_agree, IsSound}
 use Rattle.sql_algebra.proofs.Folds.{select_sound, plain_sound}
 use Rattle.path_lowering.specs.Adding.{null_of}
 use Rattle.path_lowering.specs.Blocks.{Laid, plan_of, alternatives_of}
@@ -36,11 +34,11 @@ use Rattle.path_lowering.specs.Layable.{IsServed}
 use Rattle.path_lowering.specs.Sound.{class_is, IsSoundQuery, IsBuilding}
 use Rattle.path_lowering.proofs.LaidLemmas.{IsShaped, belongs, block_laid}
 use Rattle.path_lowering.proofs.LayableLemmas.{first_table}
-use Rattle.path_lowering.proofs.Lists.{map-again, map-each}
+use Rattle.path_lowering.proofs.Lists.{map-again}
 use Rattle.path_lowering.proofs.PlacingLemmas.{and_join, kept_in, of_each}
 use Rattle.path_lowering.proofs.ServedLemmas.{graph_valid}
 use Rattle.path_lowering.proofs.SharedLemmas.{in_mapped}
-use Rattle.path_lowering.proofs.SoundForms.{null_value_sound, null_class_is, truth_sound}
+use Rattle.path_lowering.proofs.SoundForms.{null_value_sound, truth_sound}
 use Rattle.path_lowering.proofs.SoundReach.{names_apart, table_found}
 use Rattle.path_lowering.proofs.SoundSelect.{IsSoundlyMade, select_is, classes_are}
 

@@ -1,7 +1,7 @@
 -- The FROM items of a block reach each of its places, and a column of a place is sound.
-use Rattle.std.proofs.Common.{◌≡◌, ◌≢◌, ℕ, zero, suc, ◌+◌, ◌<◌, ◌≤◌, ◌^◌, Bool, true, false, ◌&&◌, ◌||◌, not, cond, List, [], ◌∷◌, ◌++◌, map, length, get_or, refl, sym, ap, ap₂, subst, ◌∙◌, inl, inr, nat_eq, Option, None, Some, is_some, bytes_eq, arith}
+use Rattle.std.proofs.Common.{◌≡◌, ◌≢◌, ℕ, zero, suc, ◌+◌, ◌<◌, ◌≤◌, ◌^◌, Bool, true, false, ◌||◌, not, cond, List, [], ◌∷◌, ◌++◌, map, length, get_or, refl, sym, ap, ap₂, subst, ◌∙◌, inl, inr, nat_eq, Option, None, Some, is_some, bytes_eq, arith}
 use Rattle.std.specs.Prelude.{find, decimal}
-use Rattle.std.specs.List.{list_all, list_any}
+use Rattle.std.specs.List.{list_all}
 use Rattle.std.proofs.Math.ListN.{length-map}
 use Rattle.std.proofs.lemmas.Fmt.{decimal_injective}
 use Rattle.std.proofs.lemmas.List.{get_or-map, length-append}
@@ -11,14 +11,12 @@ use Rattle.multisets.proofs.Members.{in_append}
 use Rattle.expr_tree.proofs.ClassLemmas.{same_self}
 use Rattle.graph_ast.specs.declared.catalog.Catalog.{Catalog}
 use Rattle.graph_ast.specs.declared.catalog.Table.{Table}
-use Rattle.graph_ast.specs.declared.catalog.Column.{Column}
 use Rattle.graph_ast.specs.declared.catalog.ColumnType.TheVariants.{Boolean}
 use Rattle.graph_ast.specs.declared.catalog.Graph.{Graph}
-use Rattle.graph_ast.specs.declared.catalog.Element.{Element}
 use Rattle.graph_ast.specs.declared.checked.Output.{Output}
 use Rattle.graph_ast.specs.declared.blocks.Tags.{Tags}
-use Rattle.graph_ast.specs.Catalogs.{IsValidElement, IsValidGraph, IsValidCatalog}
-use Rattle.graph_ast.specs.Lookups.{table_at, column_at, vertex_element, edge_element, no_element, elements_of}
+use Rattle.graph_ast.specs.Catalogs.{IsValidGraph, IsValidCatalog}
+use Rattle.graph_ast.specs.Lookups.{table_at, column_at, edge_element, no_element, elements_of}
 use Rattle.graph_meaning.specs.Choices.{Condition}
 use Rattle.graph_meaning.specs.Lists.{agree}
 use Rattle.sql_algebra.specs.declared.tree.ColumnLeaf.{ColumnLeaf}

@@ -1,10 +1,8 @@
 -- The SELECT of a block that is laid out is sound.
-use Rattle.std.proofs.Common.{◌≡◌, ℕ, ◌<◌, ◌≤◌, Bool, true, false, ◌&&◌, cond, List, [], ◌∷◌, ◌++◌, map, length, refl, sym, ap, subst, ◌∙◌, inl, inr, Option, None, Some, bytes_eq}
+use Rattle.std.proofs.Common.{◌≡◌, ℕ, ◌<◌, ◌≤◌, Bool, true, false, cond, List, [], ◌∷◌, ◌++◌, map, length, refl, sym, ap, subst, ◌∙◌, inl, inr, Option, None, Some, bytes_eq}
 use Rattle.std.specs.List.{list_all}
 use Rattle.std.proofs.lemmas.Slice.Eq.{bytes_eq-Decides}
-use Rattle.pgq_base.specs.declared.value.Class.{Class}
 use Rattle.multisets.specs.Bags.{IsIn, IsWithoutRepeats}
-use Rattle.expr_tree.specs.declared.tree.Comparison.{Comparison}
 use Rattle.expr_tree.specs.declared.tree.Expr.TheVariants.{Null, Leaf}
 use Rattle.expr_tree.specs.Classes.{class_in}
 use Rattle.expr_tree.specs.Leaves.{leaves_in, EachLeaf}
@@ -24,9 +22,9 @@ use Rattle.sql_algebra.specs.Soundness.{Reach, leaf_class, value_is_sound, condi
 use Rattle.sql_algebra.proofs.Folds.{select_sound}
 use Rattle.path_lowering.specs.declared.placing.Source.{Source}
 use Rattle.path_lowering.specs.declared.spots.Spot.{Spot}
-use Rattle.path_lowering.specs.Spots.{element_of_kind, element_at}
+use Rattle.path_lowering.specs.Spots.{element_at}
 use Rattle.path_lowering.specs.Emitted.{SqlCondition, leaf_of, lowered_property, lowered_leaf, lowered, spot_by}
-use Rattle.path_lowering.specs.Placed.{from_of, where_of}
+use Rattle.path_lowering.specs.Placed.{from_of}
 use Rattle.path_lowering.specs.Blocks.{Laid, laid_tags, laid_spots, sources_of, column_for, block_conditions}
 use Rattle.path_lowering.specs.Selects.{select_for, IsBlockLaid}
 use Rattle.path_lowering.specs.Lowered.{Combining}
@@ -35,12 +33,11 @@ use Rattle.path_lowering.proofs.Facts.{element_valid}
 use Rattle.path_lowering.proofs.Lists.{map-again, map-each}
 use Rattle.path_lowering.proofs.PlacingLemmas.{and_join, of_each}
 use Rattle.path_lowering.proofs.SharedLemmas.{in_mapped}
-use Rattle.path_lowering.proofs.TupleLemmas.{names_differ}
 use Rattle.path_lowering.proofs.SoundForms.{leaf_value_sound, leaf_class_is, null_value_sound, null_class_is, pair_sound, all_sound, any_sound, StandsFor, mapped_value_sound, mapped_class_is, mapped_sound}
 use Rattle.path_lowering.proofs.SoundPlacing.{ons_sound, where_sound}
 use Rattle.path_lowering.proofs.SoundReach.{IsReached, column_sound, element_in, names_apart, reached, aliases_apart, tables_known}
 use Rattle.path_lowering.proofs.SoundConditions.{Accepts}
-use Rattle.path_lowering.proofs.SoundBlock.{BecomesFine, IsMade, block_fine, tags_within}
+use Rattle.path_lowering.proofs.SoundBlock.{BecomesFine, block_fine, tags_within}
 
 -- the property of a name
 named_property : (name : List ℕ) (properties : List Property) (column : ℕ) → column_named name properties ≡ Some column
@@ -77,8 +74,7 @@ module _ (catalog : Catalog) (graph : Graph) (prefix : ℕ) (reach : Reach) (sou
       go (Some column) e =
           let m = named_property leaf.property (element_at graph spot).properties column e in
           let ok = reached_all spot h in
-          let below = subst (λ n. n < length (table_at catalog (element_at graph spot).table).columns) m.3 ((element_valid catalog graph valid spot.kind spot.element ok.there).property_columns m.0 m.1) in
-          (
+          let below = subst (λ n. n < length (table_at catalog (element_at graph spot).table).columns) m.3 ((element_valid catalog graph valid spot.kind spot.element ok.there).property_columns m.0 m.1) in (
             leaf_value_sound catalog reach (leaf_of catalog graph prefix spot column) (column_sound catalog graph prefix reach sound valid spot ok column below),
             leaf_class_is catalog reach (leaf_of catalog graph prefix spot column)
                 ∙ ap (λ n. class_of_type (column_at (table_at catalog (element_at graph spot).table) n).kind) (sym m.3)

@@ -1,5 +1,5 @@
 -- What is asked of a query whose SELECTs are to be sound in the catalog.
-use Rattle.std.specs.Prelude.{◌≡◌, ℕ, ◌≤◌, Bool, true, List, length, map, Some}
+use Rattle.std.specs.Prelude.{◌≡◌, ◌≤◌, Bool, true, List, length, map, Some}
 use Rattle.std.specs.List.{list_all}
 use Rattle.pgq_base.specs.declared.value.Class.{Class}
 use Rattle.pgq_base.specs.declared.value.Class.TheVariants.{Truth}

@@ -1,5 +1,5 @@
 -- What is asked of a catalog and a query whose SELECTs are to have a text.
-use Rattle.std.specs.Prelude.{◌≡◌, ℕ, ◌≤◌, Bool, true, ◌&&◌, List, length, Some}
+use Rattle.std.specs.Prelude.{◌≡◌, ◌≤◌, Bool, true, ◌&&◌, length, Some}
 use Rattle.multisets.specs.Bags.{IsIn}
 use Rattle.expr_tree.specs.declared.tree.Expr.TheOpen.{Expr-F}
 use Rattle.expr_tree.specs.declared.tree.Expr.TheFolds.{fold-Expr}
