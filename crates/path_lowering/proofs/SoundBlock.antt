@@ -1,5 +1,5 @@
 -- The conditions of a block hold what comparisons of its columns hold, and what the query's own conditions hold when lowered.
-use Rattle.std.proofs.Common.{◌≡◌, ℕ, ◌+◌, ◌*◌, ◌≤◌, Bool, true, List, [], ◌∷◌, ◌++◌, map, flat_map, length, refl, sym, ap, subst, ◌∙◌, inl, inr, Option, None, Some, arith}
+use Rattle.std.proofs.Common.{nat_eq, ◌≡◌, ℕ, ◌+◌, ◌*◌, ◌≤◌, Bool, true, List, [], ◌∷◌, ◌++◌, map, flat_map, length, refl, sym, ap, subst, ◌∙◌, inl, inr, Option, None, Some, arith}
 use Rattle.std.specs.Prelude.{slice_get}
 use Rattle.std.specs.List.{list_all}
 use Rattle.std.proofs.Math.ListN.{length-map}
@@ -16,11 +16,11 @@ use Rattle.graph_ast.specs.Catalogs.{IsValidGraph}
 use Rattle.graph_meaning.specs.Blocks.{may_meet_piece}
 use Rattle.graph_meaning.specs.Choices.{Condition, PlacedPiece, Scoped, expansion_of, operand_at, iterations}
 use Rattle.graph_meaning.specs.Conditions.{place_in}
-use Rattle.graph_meaning.specs.Lists.{tagged}
+use Rattle.graph_meaning.specs.Lists.{agree, tagged}
 use Rattle.graph_meaning.proofs.Members.{in_flat}
 use Rattle.path_lowering.specs.declared.spots.Kind.TheVariants.{Vertex, Edge}
 use Rattle.path_lowering.specs.declared.spots.Spot.{Spot}
-use Rattle.path_lowering.specs.Spots.{spots_along}
+use Rattle.path_lowering.specs.Spots.{spots_along, same_kind}
 use Rattle.path_lowering.specs.Emitted.{SqlCondition, lowered, spot_in, spot_by, piece_conditions, scoped_condition, choice_conditions, mode_conditions, sharing_conditions}
 use Rattle.path_lowering.specs.Blocks.{Laid, IsPart, laid_tags, laid_spots, alternatives_of, where_for, block_conditions}
 use Rattle.path_lowering.specs.Selects.{IsBlockLaid}
@@ -105,6 +105,6 @@ module _ (catalog : Catalog) (graph : Graph) (prefix : ℕ) (valid : IsValidGrap
           (append_fine fine (sharing_conditions catalog graph prefix names (laid_tags parts) (laid_spots parts)) (where_for catalog graph prefix (laid_tags parts) (laid_spots parts) condition)
           (subst (λ (s : List Spot). list_all fine (sharing_conditions catalog graph prefix names (laid_tags parts) s) ≡ true) spots_are
           (sharing_fine catalog graph prefix valid fine spots accepts names (laid_tags parts)
-          (ap (λ s. Rattle.graph_meaning.specs.Lists.agree Rattle.std.specs.Prelude.nat_eq names (laid_tags parts) (map (λ x. x.element) s)) spots_are ∙ ok.numbers)
-          (ap (λ s. Rattle.graph_meaning.specs.Lists.agree Rattle.path_lowering.specs.Spots.same_kind names (laid_tags parts) (map (λ x. x.kind) s)) spots_are ∙ ok.kinds)))
+          (ap (λ s. agree nat_eq names (laid_tags parts) (map (λ x. x.element) s)) spots_are ∙ ok.numbers)
+          (ap (λ s. agree same_kind names (laid_tags parts) (map (λ x. x.kind) s)) spots_are ∙ ok.kinds)))
           (last_fine condition refl))

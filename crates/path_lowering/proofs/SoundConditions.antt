@@ -10,6 +10,7 @@ use Rattle.expr_tree.specs.declared.tree.Comparison.{Comparison}
 use Rattle.expr_tree.specs.declared.tree.Comparison.TheVariants.{Equal, NotEqual}
 use Rattle.expr_tree.specs.declared.tree.Expr.TheVariants.{Leaf, Compare, All, Any}
 use Rattle.graph_ast.specs.declared.catalog.Catalog.{Catalog}
+use Rattle.graph_ast.specs.declared.catalog.Table.{Table}
 use Rattle.graph_ast.specs.declared.catalog.Graph.{Graph}
 use Rattle.graph_ast.specs.declared.catalog.Element.{Element}
 use Rattle.graph_ast.specs.declared.catalog.EdgeElement.{EdgeElement}
@@ -35,7 +36,8 @@ use Rattle.path_lowering.specs.declared.spots.Kind.{Kind}
 use Rattle.path_lowering.specs.declared.spots.Kind.TheVariants.{Vertex, Edge}
 use Rattle.path_lowering.specs.declared.spots.Spot.{Spot}
 use Rattle.path_lowering.specs.Spots.{element_of_kind, element_at, same_kind}
-use Rattle.path_lowering.specs.Emitted.{SqlCondition, any_of, all_of, goes_right, goes_left, leaf_of, compared_columns, meets_end, leads_from, edge_conditions, read_either, between, piece_conditions, differing, all_differing, simply_differing, edge_spots, vertex_spots, is_edge_spot, is_vertex_spot, mode_conditions, same_key, all_same_key, sharing_conditions}
+use Rattle.path_lowering.specs.Emitted.{SqlCondition, any_of, all_of, goes_right, goes_left, leaf_of, compared_columns, meets_end, leads_from, edge_conditions, read_either, between}
+use Rattle.path_lowering.specs.Emitted.{piece_conditions, differing, all_differing, simply_differing, edge_spots, vertex_spots, is_edge_spot, is_vertex_spot, mode_conditions, same_key, all_same_key, sharing_conditions}
 use Rattle.path_lowering.specs.Shown.{count_of_kind}
 use Rattle.path_lowering.specs.Blocks.{is_empty, shared_outside}
 use Rattle.path_lowering.specs.Apart.{is_in_all, without, apart}
@@ -148,7 +150,7 @@ module _ (catalog : Catalog) (graph : Graph) (prefix : ℕ) (valid : IsValidGrap
     pub any : (es : List SqlCondition) → 2 ≤ length es → list_all fine es ≡ true → fine (Any es) ≡ true
 
   module _ (accepts : Accepts) where
-    abbrev table_of : Spot → Rattle.graph_ast.specs.declared.catalog.Table.Table
+    abbrev table_of : Spot → Table
     table_of spot = table_at catalog (element_at graph spot).table
 
     element_ok : (spot : Spot) → IsIn spot spots → IsValidElement catalog (element_at graph spot)

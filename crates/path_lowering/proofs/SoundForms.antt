@@ -7,7 +7,7 @@ use Rattle.pgq_base.specs.declared.value.Class.{Class}
 use Rattle.pgq_base.specs.declared.value.Class.TheVariants as class
 use Rattle.pgq_base.specs.declared.value.Value.TheVariants as value
 use Rattle.expr_tree.specs.declared.tree.Comparison.{Comparison}
-use Rattle.expr_tree.specs.declared.tree.Expr.{Expr}
+use Rattle.expr_tree.specs.declared.tree.Expr.{Expr, Expr-F}
 use Rattle.expr_tree.specs.declared.tree.Expr.TheVariants.{Null, Lit, Leaf, Compare, All, Any}
 use Rattle.expr_tree.specs.Classes.{same_class, class_step, class_in, judged_step, judged, well_classed}
 use Rattle.expr_tree.specs.Leaves.{joined, leaves_step, leaves_in, EachLeaf}
@@ -58,7 +58,7 @@ module _ (catalog : Catalog) (reach : Reach) where
       (on-Compare leaves_step op (Leaf a) (Leaf b) ∙ ap₂ (λ x y. x ++ y) (on-Leaf leaves_step a) (on-Leaf leaves_step b))
       (and_join _ _ p (and_join _ _ q refl))
       (ap (λ j. j.kept) (on-Compare (judged_step leaf_class) op (Leaf a) (Leaf b)
-      ∙ ap₂ (λ x y. judged_step leaf_class (Rattle.expr_tree.specs.declared.tree.Expr.Expr-F.Compare op x y)) (on-Leaf (judged_step leaf_class) a) (on-Leaf (judged_step leaf_class) b))
+      ∙ ap₂ (λ x y. judged_step leaf_class (Expr-F.Compare op x y)) (on-Leaf (judged_step leaf_class) a) (on-Leaf (judged_step leaf_class) b))
       ∙ ap (λ c. same_class a.class c) (sym same) ∙ same_self a.class)
       (on-Compare (class_step leaf_class) op (Leaf a) (Leaf b))
 

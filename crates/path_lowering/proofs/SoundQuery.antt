@@ -1,8 +1,10 @@
 -- The lowered query is sound in the catalog.
-use Rattle.std.proofs.Common.{◌≡◌, ℕ, ◌+◌, ◌≤◌, true, List, [], ◌∷◌, map, filter, drop, length, refl, sym, ap, ap₂, subst, ◌∙◌, inl, inr, is_some, arith}
+use Rattle.std.proofs.Common.{◌≡◌, ℕ, ◌+◌, ◌≤◌, true, false, List, [], ◌∷◌, map, flat_map, filter, drop, length, refl, sym, ap, ap₂, subst, ◌∙◌, inl, inr, is_some, arith}
 use Rattle.std.specs.List.{AllZip, enumerate_from, list_all}
 use Rattle.pgq_base.specs.declared.value.Class.{Class}
 use Rattle.multisets.specs.Bags.{IsIn}
+use Rattle.pgq_base.specs.declared.value.Value.TheVariants.{Truth}
+use Rattle.expr_tree.specs.declared.tree.Expr.TheVariants.{Lit}
 use Rattle.expr_tree.specs.Classes.{class_in}
 use Rattle.expr_tree.proofs.ClassLemmas.{same_self}
 use Rattle.graph_ast.specs.declared.catalog.Catalog.{Catalog}
@@ -106,7 +108,7 @@ module _ (catalog : Catalog) (query : CheckedQuery) (served : IsServed catalog q
     pub from_block : (prefix : ℕ) (block : Block) → IsIn block (blocks graph query) → (one : Laid) → IsIn one (laid_block catalog graph prefix combined query block)
         → IsLaidFrom catalog graph prefix combined query one
     from_block prefix block there one h =
-        laid_from catalog graph prefix combined query query.paths block.paths (plan_of (query_singletons query) (Rattle.std.specs.Prelude.flat_map (λ part. part.tags) block.paths))
+        laid_from catalog graph prefix combined query query.paths block.paths (plan_of (query_singletons query) (flat_map (λ part. part.tags) block.paths))
         (all_chosen 0 query.paths block.paths (λ path k. k) (block_picks catalog graph valid (without_rows catalog) fits [] query block there)) one h
 
     module _ (combines : IsCombining combined) (builds : IsBuilding combined) (ok : IsSoundQuery catalog graph query) where
@@ -114,7 +116,7 @@ module _ (catalog : Catalog) (query : CheckedQuery) (served : IsServed catalog q
       laid block there = block_laid catalog graph valid (without_rows catalog) fits query served.lowerable 65 combined combines block there
 
       made : (block : Block) (there : IsIn block (blocks graph query)) (one : Laid) → IsIn one (laid_block catalog graph 65 combined query block)
-          → IsSoundlyMade catalog graph 65 (query_singletons query) (laid_block catalog graph 65 combined query block) query.condition query.columns served.valid valid (laid block there) combined builds one
+          → IsSoundlyMade catalog graph 65 combined one
       made block there one h =
           let from = from_block 65 block there one h in
           record {
@@ -148,7 +150,7 @@ module _ (catalog : Catalog) (query : CheckedQuery) (served : IsServed catalog q
           (λ column h. let m = in_mapped null_of column query.columns h in
           ap (λ c. value_is_sound catalog (none.from) c.value) (sym m.2) ∙ null_value_sound catalog none.from (class_in class_is m.0.value))))
           refl)
-          (and_join _ _ (ap (λ f. f none.from) (plain_sound catalog (Rattle.expr_tree.specs.declared.tree.Expr.TheVariants.Lit (Rattle.pgq_base.specs.declared.value.Value.TheVariants.Truth Rattle.std.specs.Prelude.false))) ∙ truth_sound catalog none.from Rattle.std.specs.Prelude.false) refl)
+          (and_join _ _ (ap (λ f. f none.from) (plain_sound catalog (Lit (Truth false))) ∙ truth_sound catalog none.from false) refl)
 
       all_sound : (those : List Block) → ((block : Block) → IsIn block those → IsIn block (blocks graph query))
           → list_all (λ select. select_is_sound catalog select []) (or_none none (map (select_of_block catalog graph 65 combined query) those)) ≡ true

@@ -18,7 +18,7 @@ use Rattle.graph_ast.specs.declared.blocks.Tags.{Tags}
 use Rattle.graph_ast.specs.Catalogs.{IsValidGraph, IsValidCatalog}
 use Rattle.graph_ast.specs.Lookups.{table_at, column_at, edge_element, no_element, elements_of}
 use Rattle.graph_meaning.specs.Choices.{Condition}
-use Rattle.graph_meaning.specs.Lists.{agree}
+use Rattle.graph_meaning.specs.Lists.{agree, all_same, tagged}
 use Rattle.sql_algebra.specs.declared.tree.ColumnLeaf.{ColumnLeaf}
 use Rattle.sql_algebra.specs.declared.tree.FromItem.{FromItem}
 use Rattle.sql_algebra.specs.Catalogs.{table_named, column_named}
@@ -36,7 +36,7 @@ use Rattle.path_lowering.specs.Selects.{IsLaidOut, IsBlockLaid}
 use Rattle.path_lowering.proofs.Facts.{in_at, in_map, element_valid}
 use Rattle.path_lowering.proofs.Lists.{map-again}
 use Rattle.path_lowering.proofs.BlockLemmas.{numbers_along}
-use Rattle.path_lowering.proofs.PlacingLemmas.{and_join, of_each}
+use Rattle.path_lowering.proofs.PlacingLemmas.{and_join, each_of, of_each}
 use Rattle.path_lowering.proofs.ItemLemmas.{Place, item_tables, IsInOrder}
 use Rattle.path_lowering.proofs.SelectLemmas.{nat_eq_decides}
 use Rattle.path_lowering.proofs.SharedLemmas.{Full, fulls_of, fulls_tags, fulls_spots, places_in_order, in_mapped}
@@ -172,16 +172,18 @@ module _ (catalog : Catalog) (graph : Graph) (prefix : ℕ) (names : List (List 
   among_names : {X : Type 0} (same : X → X → Bool) (some all : List (List ℕ)) (ts : List Tags) (xs : List X) → ((name : List ℕ) → IsIn name some → IsIn name all)
       → agree same all ts xs ≡ true → agree same some ts xs ≡ true
   among_names same some all ts xs among h =
-      of_each (λ name. Rattle.graph_meaning.specs.Lists.all_same same (Rattle.graph_meaning.specs.Lists.tagged name ts xs)) some
-      (λ name k. Rattle.path_lowering.proofs.PlacingLemmas.each_of (λ name. Rattle.graph_meaning.specs.Lists.all_same same (Rattle.graph_meaning.specs.Lists.tagged name ts xs)) all h name (among name k))
+      of_each (λ name. all_same same (tagged name ts xs)) some
+      (λ name k. each_of (λ name. all_same same (tagged name ts xs)) all h name (among name k))
 
   numbers_full : agree nat_eq ok.shared (map (λ f. f.tags) fulls) (map (λ f. f.spot.element) fulls) ≡ true
   numbers_full =
-      ap₂ (agree nat_eq ok.shared) tags_are (sym (map-again (λ spot. spot.element) (λ f. f.spot) fulls) ∙ ap (map (λ spot. spot.element)) spots_are) ∙ among_names nat_eq ok.shared names tags (map (λ spot. spot.element) spots) ok.among ok.numbers
+      ap₂ (agree nat_eq ok.shared) tags_are (sym (map-again (λ spot. spot.element) (λ f. f.spot) fulls) ∙ ap (map (λ spot. spot.element)) spots_are)
+      ∙ among_names nat_eq ok.shared names tags (map (λ spot. spot.element) spots) ok.among ok.numbers
 
   kinds_full : agree same_kind ok.shared (map (λ f. f.tags) fulls) (map (λ f. f.spot.kind) fulls) ≡ true
   kinds_full =
-      ap₂ (agree same_kind ok.shared) tags_are (sym (map-again (λ spot. spot.kind) (λ f. f.spot) fulls) ∙ ap (map (λ spot. spot.kind)) spots_are) ∙ among_names same_kind ok.shared names tags (map (λ spot. spot.kind) spots) ok.among ok.kinds
+      ap₂ (agree same_kind ok.shared) tags_are (sym (map-again (λ spot. spot.kind) (λ f. f.spot) fulls) ∙ ap (map (λ spot. spot.kind)) spots_are)
+      ∙ among_names same_kind ok.shared names tags (map (λ spot. spot.kind) spots) ok.among ok.kinds
 
   planned_full : map (λ f. f.spot.item) fulls ≡ plan_of ok.shared (map (λ f. f.tags) fulls)
   planned_full =

@@ -1,6 +1,7 @@
 -- The SELECT of a block that is laid out is sound.
 use Rattle.std.proofs.Common.{◌≡◌, ℕ, ◌<◌, ◌≤◌, Bool, true, false, cond, List, [], ◌∷◌, ◌++◌, map, length, refl, sym, ap, subst, ◌∙◌, inl, inr, Option, None, Some, bytes_eq}
 use Rattle.std.specs.List.{list_all}
+use Rattle.std.proofs.lemmas.List.Folds.{list_all-append}
 use Rattle.std.proofs.lemmas.Slice.Eq.{bytes_eq-Decides}
 use Rattle.multisets.specs.Bags.{IsIn, IsWithoutRepeats}
 use Rattle.expr_tree.specs.declared.tree.Expr.TheVariants.{Null, Leaf}
@@ -15,28 +16,31 @@ use Rattle.graph_ast.specs.declared.checked.PropertyLeaf.{PropertyLeaf}
 use Rattle.graph_ast.specs.Catalogs.{IsValidCatalog, IsValidGraph}
 use Rattle.graph_ast.specs.Lookups.{table_at, column_at, column_named, column_of}
 use Rattle.graph_ast.specs.Types.{class_of_type}
-use Rattle.graph_meaning.specs.Choices.{Condition}
+use Rattle.graph_ast.specs.declared.blocks.Alternative.{Alternative}
+use Rattle.graph_meaning.specs.Choices.{Condition, Scoped, expansion_of}
 use Rattle.sql_algebra.specs.declared.tree.FromItem.{FromItem}
 use Rattle.sql_algebra.specs.declared.tree.Select.{Select}
+use Rattle.sql_algebra.specs.declared.tree.SelectColumn.{SelectColumn}
+use Rattle.sql_algebra.specs.declared.tree.Conjunct.{Conjunct}
 use Rattle.sql_algebra.specs.Soundness.{Reach, leaf_class, value_is_sound, condition_is_sound, differ_from, select_is_sound, classes_of}
-use Rattle.sql_algebra.proofs.Folds.{select_sound}
+use Rattle.sql_algebra.proofs.Folds.{conjunct_is_sound, select_sound}
 use Rattle.path_lowering.specs.declared.placing.Source.{Source}
 use Rattle.path_lowering.specs.declared.spots.Spot.{Spot}
 use Rattle.path_lowering.specs.Spots.{element_at}
 use Rattle.path_lowering.specs.Emitted.{SqlCondition, leaf_of, lowered_property, lowered_leaf, lowered, spot_by}
-use Rattle.path_lowering.specs.Placed.{from_of}
-use Rattle.path_lowering.specs.Blocks.{Laid, laid_tags, laid_spots, sources_of, column_for, block_conditions}
-use Rattle.path_lowering.specs.Selects.{select_for, IsBlockLaid}
+use Rattle.path_lowering.specs.Placed.{from_of, where_of}
+use Rattle.path_lowering.specs.Blocks.{Laid, laid_tags, laid_spots, sources_of, alternatives_of, column_for, block_conditions}
+use Rattle.path_lowering.specs.Selects.{select_for, select_besides, IsBlockLaid}
 use Rattle.path_lowering.specs.Lowered.{Combining}
 use Rattle.path_lowering.specs.Sound.{class_is, HasItsClass, IsSoundExpression, IsSoundCondition, IsBuilding}
 use Rattle.path_lowering.proofs.Facts.{element_valid}
-use Rattle.path_lowering.proofs.Lists.{map-again, map-each}
+use Rattle.path_lowering.proofs.Lists.{append-nil, map-again, map-append, map-each}
 use Rattle.path_lowering.proofs.PlacingLemmas.{and_join, of_each}
 use Rattle.path_lowering.proofs.SharedLemmas.{in_mapped}
 use Rattle.path_lowering.proofs.SoundForms.{leaf_value_sound, leaf_class_is, null_value_sound, null_class_is, pair_sound, all_sound, any_sound, StandsFor, mapped_value_sound, mapped_class_is, mapped_sound}
 use Rattle.path_lowering.proofs.SoundPlacing.{ons_sound, where_sound}
 use Rattle.path_lowering.proofs.SoundReach.{IsReached, column_sound, element_in, names_apart, reached, aliases_apart, tables_known}
-use Rattle.path_lowering.proofs.SoundConditions.{Accepts}
+use Rattle.path_lowering.proofs.SoundConditions.{Accepts, append_fine}
 use Rattle.path_lowering.proofs.SoundBlock.{BecomesFine, block_fine, tags_within}
 
 -- the property of a name
@@ -106,70 +110,90 @@ module _ (catalog : Catalog) (graph : Graph) (prefix : ℕ) (reach : Reach) (sou
   pub becomes_sound : (e : Condition) → IsSoundCondition catalog graph e → BecomesFine catalog graph prefix valid (condition_is_sound catalog reach) spots accepts e
   becomes_sound e ok holding within = lowered_sound holding within e ok
 
-module _ (catalog : Catalog) (graph : Graph) (prefix : ℕ) (names : List (List ℕ)) (parts : List Laid) (condition : Option Condition) (outputs : List Output)
-    (sound : IsValidCatalog catalog) (valid : IsValidGraph catalog graph) (ok : IsBlockLaid catalog graph prefix names parts condition outputs) (combined : Combining) (builds : IsBuilding combined) where
-  abbrev conditions : List SqlCondition
-  conditions = block_conditions catalog graph prefix names parts condition
+-- a path block of the select: its conditions are what its alternatives become, and those of the query in them are sound
+pub record IsSoundlyMade (catalog : Catalog) (graph : Graph) (prefix : ℕ) (combined : Combining) (laid : Laid) : Type 0 where
+  pub some : 1 ≤ length laid.part.alternatives
+  pub conditions : laid.conditions ≡ combined (alternatives_of catalog graph prefix laid.path laid.part laid.spots)
+  pub scoped : (choice : Alternative) → IsIn choice laid.part.alternatives → (scoped : Scoped) → IsIn scoped (expansion_of laid.path choice).conditions → IsSoundCondition catalog graph scoped.condition
 
+module _ (catalog : Catalog) (graph : Graph) (prefix : ℕ) (names : List (List ℕ)) (parts : List Laid) (condition : Option Condition) (outputs : List Output)
+    (sound : IsValidCatalog catalog) (valid : IsValidGraph catalog graph) (ok : IsBlockLaid catalog graph prefix names parts condition outputs) (combined : Combining) (builds : IsBuilding combined)
+    (made : (laid : Laid) → IsIn laid parts → IsSoundlyMade catalog graph prefix combined laid) (last : (c : Condition) → condition ≡ Some c → IsSoundCondition catalog graph c)
+    (columns : (output : Output) → IsIn output outputs → IsSoundExpression catalog graph output.value) where
   abbrev sources : List Source
   sources = sources_of catalog graph prefix (laid_spots parts)
 
-  abbrev items : List FromItem
-  items = from_of sources conditions
-
-  abbrev reach : Reach
-  reach = items ++ []
-
-  abbrev select : Select
-  select = select_for catalog graph prefix names parts condition outputs
-
-  reached_all : (spot : Spot) → IsIn spot (laid_spots parts) → IsReached catalog graph prefix reach spot
-  reached_all = reached catalog graph prefix names parts condition outputs sound valid ok conditions []
-
-  abbrev accepted : Accepts catalog graph prefix valid (condition_is_sound catalog reach) (laid_spots parts)
-  accepted = accepts catalog graph prefix reach sound valid (laid_spots parts) reached_all
-
-  abbrev BecomesSound : Condition → Type 0
-  BecomesSound = BecomesFine catalog graph prefix valid (condition_is_sound catalog reach) (laid_spots parts) accepted
-
-  becomes : (e : Condition) → IsSoundCondition catalog graph e → BecomesSound e
-  becomes = becomes_sound catalog graph prefix reach sound valid (laid_spots parts) reached_all
+  abbrev column_of_output : Output → SelectColumn
+  column_of_output = column_for catalog graph prefix (laid_tags parts) (laid_spots parts)
 
   within : (name : List ℕ) (spot : Spot) → spot_by (laid_tags parts) (laid_spots parts) name ≡ Some spot → IsIn spot (laid_spots parts)
   within = tags_within (laid_tags parts) (laid_spots parts)
 
-  -- a path block of the select: its conditions are what its alternatives become
-  pub record IsSoundlyMade (laid : Laid) : Type 0 where
-    pub some : 1 ≤ length laid.part.alternatives
-    pub conditions : laid.conditions ≡ combined (Rattle.path_lowering.specs.Blocks.alternatives_of catalog graph prefix laid.path laid.part laid.spots)
-    pub scoped : (choice : Rattle.graph_ast.specs.declared.blocks.Alternative.Alternative) → IsIn choice laid.part.alternatives → (scoped : Rattle.graph_meaning.specs.Choices.Scoped)
-        → IsIn scoped (Rattle.graph_meaning.specs.Choices.expansion_of laid.path choice).conditions → IsSoundCondition catalog graph scoped.condition
+  -- with more conditions and conjuncts, under the reach of selects around it
+  module _ (besides : List SqlCondition) (more : List Conjunct) (outer : Reach) where
+    abbrev conditions : List SqlCondition
+    conditions = block_conditions catalog graph prefix names parts condition ++ besides
 
-  module _ (made : (laid : Laid) → IsIn laid parts → IsSoundlyMade laid) (last : (c : Condition) → condition ≡ Some c → IsSoundCondition catalog graph c)
-      (columns : (output : Output) → IsIn output outputs → IsSoundExpression catalog graph output.value) where
-    conditions_sound : list_all (condition_is_sound catalog reach) conditions ≡ true
-    conditions_sound =
-        block_fine catalog graph prefix valid (condition_is_sound catalog reach) (laid_spots parts) accepted names parts condition outputs combined builds ok refl
+    abbrev pub items : List FromItem
+    items = from_of sources conditions
+
+    abbrev pub reach : Reach
+    reach = items ++ outer
+
+    abbrev select : Select
+    select = select_besides catalog graph prefix names parts condition outputs besides more
+
+    pub reached_all : (spot : Spot) → IsIn spot (laid_spots parts) → IsReached catalog graph prefix reach spot
+    reached_all = reached catalog graph prefix names parts condition outputs sound valid ok conditions outer
+
+    becomes : (e : Condition) → IsSoundCondition catalog graph e
+        → BecomesFine catalog graph prefix valid (condition_is_sound catalog reach) (laid_spots parts) (accepts catalog graph prefix reach sound valid (laid_spots parts) reached_all) e
+    becomes = becomes_sound catalog graph prefix reach sound valid (laid_spots parts) reached_all
+
+    conditions_sound : list_all (condition_is_sound catalog reach) besides ≡ true → list_all (condition_is_sound catalog reach) conditions ≡ true
+    conditions_sound h =
+        append_fine (condition_is_sound catalog reach) (block_conditions catalog graph prefix names parts condition) besides
+        (block_fine catalog graph prefix valid (condition_is_sound catalog reach) (laid_spots parts) (accepts catalog graph prefix reach sound valid (laid_spots parts) reached_all)
+        names parts condition outputs combined builds ok refl
         (λ laid h. let m = made laid h in record { some = m.some; conditions = m.conditions; scoped = λ choice k scoped l. becomes scoped.condition (m.scoped choice k scoped l) })
-        (λ c e. becomes c (last c e))
+        (λ c e. becomes c (last c e))) h
 
-    -- the classes of the columns are those of the query's
-    pub classes_are : classes_of select.columns ≡ map (λ output. class_in class_is output.value) outputs
-    classes_are =
-        map-again (λ column. class_in leaf_class column.value) (column_for catalog graph prefix (laid_tags parts) (laid_spots parts)) outputs
-        ∙ map-each _ (λ output. class_in class_is output.value) outputs
-        (λ output h. lowered_class catalog graph prefix reach sound valid (laid_spots parts) reached_all (spot_by (laid_tags parts) (laid_spots parts)) within output.value (columns output h))
+    column_sound_at : (column : SelectColumn) → IsIn column (map column_of_output outputs) → value_is_sound catalog reach column.value ≡ true
+    column_sound_at column h =
+        let m = in_mapped column_of_output column outputs h in
+        ap (λ c. value_is_sound catalog reach c.value) (sym m.2)
+        ∙ lowered_value_sound catalog graph prefix reach sound valid (laid_spots parts) reached_all (spot_by (laid_tags parts) (laid_spots parts)) within m.0.value (columns m.0 m.1)
 
-    pub select_is : IsWithoutRepeats (map (λ output. output.name) outputs) → select_is_sound catalog select [] ≡ true
-    select_is apart =
-        ap (λ f. f []) (select_sound catalog select)
+    pub besides_is : differ_from (map (λ item. item.alias) outer) (map (λ item. item.alias) items) ≡ true → list_all (condition_is_sound catalog reach) besides ≡ true
+        → list_all (λ conjunct. conjunct reach) (map (conjunct_is_sound catalog) more) ≡ true → IsWithoutRepeats (map (λ output. output.name) outputs) → select_is_sound catalog select outer ≡ true
+    besides_is aliases h more_sound apart =
+        ap (λ f. f outer) (select_sound catalog select)
         ∙ and_join _ _ (and_join _ _ (and_join _ _ (and_join _ _ (and_join _ _
         (tables_known catalog graph prefix names parts condition outputs sound valid ok conditions)
-        (aliases_apart catalog graph prefix names parts condition outputs sound valid ok conditions))
-        (ap (differ_from []) (map-again (λ column. column.name) (column_for catalog graph prefix (laid_tags parts) (laid_spots parts)) outputs) ∙ names_apart (map (λ output. output.name) outputs) apart))
-        (of_each (λ column. value_is_sound catalog reach column.value) select.columns
-        (λ column h. let m = in_mapped (column_for catalog graph prefix (laid_tags parts) (laid_spots parts)) column outputs h in
-        ap (λ c. value_is_sound catalog reach c.value) (sym m.2)
-        ∙ lowered_value_sound catalog graph prefix reach sound valid (laid_spots parts) reached_all (spot_by (laid_tags parts) (laid_spots parts)) within m.0.value (columns m.0 m.1))))
-        (ons_sound catalog [] sources conditions conditions_sound))
-        (where_sound catalog reach sources conditions conditions_sound)
+        aliases)
+        (ap (differ_from []) (map-again (λ column. column.name) column_of_output outputs) ∙ names_apart (map (λ output. output.name) outputs) apart))
+        (of_each (λ column. value_is_sound catalog reach column.value) (map column_of_output outputs) column_sound_at))
+        (ons_sound catalog outer sources conditions (conditions_sound h)))
+        (ap (list_all (λ conjunct. conjunct reach)) (map-append (conjunct_is_sound catalog) (where_of sources conditions) more)
+        ∙ list_all-append (λ conjunct. conjunct reach) (map (conjunct_is_sound catalog) (where_of sources conditions)) (map (conjunct_is_sound catalog) more)
+        ∙ and_join _ _ (where_sound catalog reach sources conditions (conditions_sound h)) more_sound)
+
+  -- the classes of the columns are those of the query's
+  pub classes_are : classes_of (select_for catalog graph prefix names parts condition outputs).columns ≡ map (λ output. class_in class_is output.value) outputs
+  classes_are =
+      map-again (λ column. class_in leaf_class column.value) column_of_output outputs
+      ∙ map-each _ (λ output. class_in class_is output.value) outputs
+      (λ output h. lowered_class catalog graph prefix (reach [] [] []) sound valid (laid_spots parts) (reached_all [] [] []) (spot_by (laid_tags parts) (laid_spots parts)) within output.value (columns output h))
+
+  plainly : select_for catalog graph prefix names parts condition outputs ≡ select_besides catalog graph prefix names parts condition outputs [] []
+  plainly =
+      let made_columns = map column_of_output outputs in
+      ap (λ conditions. record { columns = made_columns; from = from_of sources conditions; conjuncts = where_of sources conditions }) (sym (append-nil (block_conditions catalog graph prefix names parts condition)))
+      ∙ ap (λ conjuncts. record { columns = made_columns; from = from_of sources (block_conditions catalog graph prefix names parts condition ++ []); conjuncts = conjuncts })
+      (sym (append-nil (where_of sources (block_conditions catalog graph prefix names parts condition ++ []))))
+
+  pub select_is : IsWithoutRepeats (map (λ output. output.name) outputs) → select_is_sound catalog (select_for catalog graph prefix names parts condition outputs) [] ≡ true
+  select_is apart =
+      ap (λ select. select_is_sound catalog select []) plainly
+      ∙ besides_is [] [] []
+      (aliases_apart catalog graph prefix names parts condition outputs sound valid ok (block_conditions catalog graph prefix names parts condition ++ [])) refl refl apart

@@ -1,5 +1,5 @@
 -- What is asked of a query whose SELECTs are to be sound in the catalog.
-use Rattle.std.specs.Prelude.{◌≡◌, ◌≤◌, Bool, true, List, length, map, Some}
+use Rattle.std.specs.Prelude.{◌≡◌, ◌≤◌, Bool, true, List, [], ◌++◌, length, map, flat_map, Some}
 use Rattle.std.specs.List.{list_all}
 use Rattle.pgq_base.specs.declared.value.Class.{Class}
 use Rattle.pgq_base.specs.declared.value.Class.TheVariants.{Truth}
@@ -13,6 +13,9 @@ use Rattle.graph_ast.specs.declared.catalog.Element.{Element}
 use Rattle.graph_ast.specs.declared.catalog.Property.{Property}
 use Rattle.graph_ast.specs.declared.checked.CheckedPath.{CheckedPath}
 use Rattle.graph_ast.specs.declared.checked.CheckedQuery.{CheckedQuery}
+use Rattle.graph_ast.specs.declared.checked.Operand.{Operand}
+use Rattle.graph_ast.specs.declared.checked.Step.{Step}
+use Rattle.graph_ast.specs.declared.checked.Step.TheVariants.{One, Part}
 use Rattle.graph_ast.specs.declared.checked.Output.{Output}
 use Rattle.graph_ast.specs.declared.checked.PropertyLeaf.{PropertyLeaf}
 use Rattle.graph_ast.specs.declared.blocks.Alternative.{Alternative}
@@ -47,6 +50,17 @@ pub record IsSoundQuery (catalog : Catalog) (graph : Graph) (query : CheckedQuer
   pub condition : (c : Condition) → query.condition ≡ Some c → IsSoundCondition catalog graph c
   pub columns : (output : Output) → IsIn output query.columns → IsSoundExpression catalog graph output.value
   pub names : IsWithoutRepeats (map (λ output. output.name) query.columns)
+
+-- the conditions of a part, of an operand and of a path
+abbrev pub conditions_in : Step → List Condition
+conditions_in (One piece) = []
+conditions_in (Part lower upper pieces conditions) = conditions
+
+abbrev pub operand_conditions : Operand → List Condition
+operand_conditions operand = flat_map conditions_in operand.steps ++ operand.conditions
+
+abbrev pub path_conditions : CheckedPath → List Condition
+path_conditions path = flat_map operand_conditions path.operands
 
 -- What holds of the conditions of all alternatives holds of what they become, if an AND and an OR of two or more keep it.
 abbrev pub IsBuilding : Combining → Type 0
