@@ -32,7 +32,7 @@ use Rattle.path_lowering.proofs.PieceLemmas.{Seat, numbers_at, got_in}
 use Rattle.path_lowering.proofs.PlacingLemmas.{and_join}
 use Rattle.path_lowering.proofs.SoundConditions.{Accepts, append_fine, flat_fine, pieces_fine, modes_fine, sharing_fine}
 
-map_fine : {X Y : Type 0} (fine : Y → Bool) (f : X → Y) (xs : List X) → ((x : X) → IsIn x xs → fine (f x) ≡ true) → list_all fine (map f xs) ≡ true
+pub map_fine : {X Y : Type 0} (fine : Y → Bool) (f : X → Y) (xs : List X) → ((x : X) → IsIn x xs → fine (f x) ≡ true) → list_all fine (map f xs) ≡ true
 map_fine fine f [] h = refl
 map_fine fine f (x ∷ xs) h = and_join _ _ (h x (inl refl)) (map_fine fine f xs (λ y k. h y (inr k)))
 

@@ -49,7 +49,7 @@ some_in [] x h = absurd h
 some_in (y ∷ ys) x h = omega arith
 
 -- a path block has an alternative
-some_alternative : (graph : Graph) (path : CheckedPath) (place : ℕ) (part : PathBlock) → IsIn part (path_blocks graph place path) → IsShaped graph path part → 1 ≤ length part.alternatives
+pub some_alternative : (graph : Graph) (path : CheckedPath) (place : ℕ) (part : PathBlock) → IsIn part (path_blocks graph place path) → IsShaped graph path part → 1 ≤ length part.alternatives
 some_alternative graph path place part h shape =
     let made = from_map (block_of graph path place) part (shapes graph path) h in
     subst (λ (b : PathBlock). IsShaped graph path b → 1 ≤ length b.alternatives) made.2
