@@ -45,7 +45,7 @@ module _ (catalog : Catalog) (query : CheckedQuery) (served : IsServed catalog q
   laid block there = block_laid catalog graph valid (without_rows catalog) fits query served.lowerable 65 combined combines block there
 
   made : (block : Block) (there : IsIn block (blocks graph query)) (one : Laid) → IsIn one (laid_block catalog graph 65 combined query block)
-      → IsSpelledLaid catalog graph (query_singletons query) (laid_block catalog graph 65 combined query block) query.condition query.columns served.valid valid (laid block there) combined builds named one
+      → IsSpelledLaid catalog graph 65 combined one
   made block there one h =
       let from = from_block catalog query served fits combined 65 block there one h in
       record {
@@ -56,8 +56,8 @@ module _ (catalog : Catalog) (query : CheckedQuery) (served : IsServed catalog q
 
   block_printable : (block : Block) → IsIn block (blocks graph query) → select_is_printable (select_of_block catalog graph 65 combined query block) ≡ true
   block_printable block there =
-      select_has_text catalog graph (query_singletons query) (laid_block catalog graph 65 combined query block) query.condition query.columns served.valid valid (laid block there) combined builds named
-      (made block there) ok.condition ok.columns ok.some ok.names
+      select_has_text catalog graph 65 (omega arith) (query_singletons query) (laid_block catalog graph 65 combined query block) query.condition query.columns served.valid valid (laid block there)
+      combined builds named (made block there) ok.condition ok.columns ok.some ok.names
 
   abbrev none : Select
   none = select_of_none catalog graph 65 query.columns

@@ -110,6 +110,16 @@ module _ (catalog : Catalog) (graph : Graph) (prefix : ℕ) (reach : Reach) (sou
   pub becomes_sound : (e : Condition) → IsSoundCondition catalog graph e → BecomesFine catalog graph prefix valid (condition_is_sound catalog reach) spots accepts e
   becomes_sound e ok holding within = lowered_sound holding within e ok
 
+-- the SELECT of a block is that with nothing besides
+pub plainly : (catalog : Catalog) (graph : Graph) (prefix : ℕ) (names : List (List ℕ)) (parts : List Laid) (condition : Option Condition) (outputs : List Output)
+    → select_for catalog graph prefix names parts condition outputs ≡ select_besides catalog graph prefix names parts condition outputs [] []
+plainly catalog graph prefix names parts condition outputs =
+    let columns = map (column_for catalog graph prefix (laid_tags parts) (laid_spots parts)) outputs in
+    let sources = sources_of catalog graph prefix (laid_spots parts) in
+    ap (λ conditions. record { columns = columns; from = from_of sources conditions; conjuncts = where_of sources conditions }) (sym (append-nil (block_conditions catalog graph prefix names parts condition)))
+    ∙ ap (λ conjuncts. record { columns = columns; from = from_of sources (block_conditions catalog graph prefix names parts condition ++ []); conjuncts = conjuncts })
+    (sym (append-nil (where_of sources (block_conditions catalog graph prefix names parts condition ++ []))))
+
 -- a path block of the select: its conditions are what its alternatives become, and those of the query in them are sound
 pub record IsSoundlyMade (catalog : Catalog) (graph : Graph) (prefix : ℕ) (combined : Combining) (laid : Laid) : Type 0 where
   pub some : 1 ≤ length laid.part.alternatives
@@ -185,15 +195,8 @@ module _ (catalog : Catalog) (graph : Graph) (prefix : ℕ) (names : List (List 
       ∙ map-each _ (λ output. class_in class_is output.value) outputs
       (λ output h. lowered_class catalog graph prefix (reach [] [] []) sound valid (laid_spots parts) (reached_all [] [] []) (spot_by (laid_tags parts) (laid_spots parts)) within output.value (columns output h))
 
-  plainly : select_for catalog graph prefix names parts condition outputs ≡ select_besides catalog graph prefix names parts condition outputs [] []
-  plainly =
-      let made_columns = map column_of_output outputs in
-      ap (λ conditions. record { columns = made_columns; from = from_of sources conditions; conjuncts = where_of sources conditions }) (sym (append-nil (block_conditions catalog graph prefix names parts condition)))
-      ∙ ap (λ conjuncts. record { columns = made_columns; from = from_of sources (block_conditions catalog graph prefix names parts condition ++ []); conjuncts = conjuncts })
-      (sym (append-nil (where_of sources (block_conditions catalog graph prefix names parts condition ++ []))))
-
   pub select_is : IsWithoutRepeats (map (λ output. output.name) outputs) → select_is_sound catalog (select_for catalog graph prefix names parts condition outputs) [] ≡ true
   select_is apart =
-      ap (λ select. select_is_sound catalog select []) plainly
+      ap (λ select. select_is_sound catalog select []) (plainly catalog graph prefix names parts condition outputs)
       ∙ besides_is [] [] []
       (aliases_apart catalog graph prefix names parts condition outputs sound valid ok (block_conditions catalog graph prefix names parts condition ++ [])) refl refl apart
