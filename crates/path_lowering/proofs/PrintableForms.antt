@@ -1,12 +1,12 @@
 -- When expressions over columns, and aliases, have a text.
-use Rattle.std.proofs.Common.{◌≡◌, ℕ, ◌<◌, ◌≤◌, ◌^◌, Bool, true, ◌&&◌, List, map, length, sym, subst, ◌∙◌, decimal, arith}
+use Rattle.std.proofs.Common.{◌≡◌, ℕ, ◌<◌, ◌≤◌, ◌^◌, Bool, true, ◌&&◌, List, [], ◌∷◌, map, length, sym, subst, ◌∙◌, decimal, arith}
 use Rattle.std.specs.List.{list_all}
 use Rattle.std.proofs.Math.ListN.{length-map}
 use Rattle.std.proofs.lemmas.Bool.{le-leb}
 use Rattle.std.proofs.lemmas.Fmt.{IsAscii-decimal, length-decimal-le}
 use Rattle.std.proofs.lemmas.List.Folds.{list_all-map}
 use Rattle.std.proofs.lemmas.Str.{IsUtf8-from_ascii, is_utf8-from_IsUtf8}
-use Rattle.std.proofs.lemmas.Str.Ascii.{IsAscii-cons}
+use Rattle.std.proofs.lemmas.Str.Ascii.{IsAscii-cons, IsAscii-nil}
 use Rattle.pgq_base.specs.declared.value.Class.{Class}
 use Rattle.pgq_base.specs.declared.value.Value.TheVariants as value
 use Rattle.expr_tree.specs.declared.tree.Comparison.{Comparison}
@@ -34,6 +34,13 @@ alias_is_name prefix number low few =
     and_join _ _ (le-leb 1 (length (alias_of prefix number)) (omega arith))
     (and_join _ _ (le-leb (length (alias_of prefix number)) 128 (omega (arith, long)))
     (is_utf8-from_IsUtf8 (alias_of prefix number) (IsUtf8-from_ascii (alias_of prefix number) (IsAscii-cons prefix (decimal number) low (IsAscii-decimal number (omega arith))))))
+
+-- a letter is a name
+pub letter_is_name : (letter : ℕ) → letter < 128 → is_name (letter ∷ []) ≡ true
+letter_is_name letter low =
+    and_join _ _ (one_there (letter ∷ []) (omega arith))
+    (and_join _ _ (le-leb (length (letter ∷ [])) 128 (omega arith))
+    (is_utf8-from_IsUtf8 (letter ∷ []) (IsUtf8-from_ascii (letter ∷ []) (IsAscii-cons letter [] low IsAscii-nil))))
 
 pub leaf_printable : (leaf : ColumnLeaf) → is_name leaf.alias ≡ true → is_name leaf.column ≡ true → value_is_printable (v.Leaf leaf) ≡ true
 leaf_printable leaf p q = on-Leaf value_step leaf ∙ and_join _ _ p q

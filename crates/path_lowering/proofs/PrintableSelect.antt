@@ -52,7 +52,7 @@ table_named_well catalog named place h = named.tables (table_at catalog place) (
 
 module _ (catalog : Catalog) (graph : Graph) (prefix : ℕ) (letter : prefix < 128) (reach : Reach) (valid : IsValidGraph catalog graph) (named : HasNames catalog) (spots : List Spot)
     (reached_all : (spot : Spot) → IsIn spot spots → IsReached catalog graph prefix reach spot) where
-  column_printable : (spot : Spot) → IsIn spot spots → (place : ℕ) → place < length (table_at catalog (element_at graph spot).table).columns
+  pub column_printable : (spot : Spot) → IsIn spot spots → (place : ℕ) → place < length (table_at catalog (element_at graph spot).table).columns
       → value_is_printable (Leaf (leaf_of catalog graph prefix spot place)) ≡ true
   column_printable spot h place below =
       let ok = reached_all spot h in
@@ -134,7 +134,7 @@ plain_printable c = at_plain Bool Bool conjunct_step select_step c
 pub select_printed : (x : Select) → select_is_printable x ≡ select_step (record { columns = x.columns; from = x.from; conjuncts = map conjunct_printable x.conjuncts })
 select_printed x = at_select Bool Bool conjunct_step select_step x
 
-plain_all : (cs : List SqlCondition) → list_all value_is_printable cs ≡ true → all_true (map conjunct_printable (map Plain cs)) ≡ true
+pub plain_all : (cs : List SqlCondition) → list_all value_is_printable cs ≡ true → all_true (map conjunct_printable (map Plain cs)) ≡ true
 plain_all [] h = refl
 plain_all (c ∷ cs) h =
     let p = Rattle.std.proofs.lemmas.Bool.and_parts (value_is_printable c) (list_all value_is_printable cs) h in and_join _ _ (plain_printable c ∙ p.0) (plain_all cs p.1)

@@ -1,5 +1,5 @@
 -- The conditions of a choice are those of its path.
-use Rattle.std.proofs.Common.{◌≡◌, ℕ, zero, suc, ◌+◌, List, [], ◌∷◌, ◌++◌, flat_map, replicate, get_or, sym, ap, subst, inl, inr}
+use Rattle.std.proofs.Common.{◌≡◌, ℕ, zero, suc, ◌+◌, List, [], ◌∷◌, ◌++◌, flat_map, replicate, get_or, sym, subst, inl, inr}
 use Rattle.multisets.specs.Bags.{IsIn}
 use Rattle.multisets.proofs.Members.{in_append, in_parts}
 use Rattle.graph_ast.specs.declared.checked.CheckedPath.{CheckedPath}

@@ -1,5 +1,5 @@
 -- NOT EXISTS of a candidate is sound within the reach of the SELECT around it.
-use Rattle.std.proofs.Common.{◌≡◌, ◌≢◌, ℕ, suc, ◌-◌, ◌<◌, ◌≤◌, ◌^◌, Bool, true, false, ◌&&◌, ◌||◌, not, cond, List, [], ◌∷◌, ◌++◌, map, length, refl, sym, ap, ap₂, subst, ◌∙◌, inl, inr, Option, None, Some, bytes_eq, arith}
+use Rattle.std.proofs.Common.{◌≡◌, ◌≢◌, ℕ, suc, ◌<◌, ◌≤◌, ◌^◌, true, false, ◌||◌, not, cond, List, [], ◌∷◌, ◌++◌, map, length, refl, sym, ap, ap₂, subst, ◌∙◌, inl, inr, None, Some, bytes_eq, arith}
 use Rattle.std.specs.Prelude.{find, pos}
 use Rattle.std.specs.List.{AllByRecursion, list_all}
 use Rattle.std.proofs.lemmas.Bool.{and_parts}
@@ -43,7 +43,6 @@ use Rattle.path_lowering.proofs.Facts.{in_at, element_valid}
 use Rattle.path_lowering.proofs.LaidLemmas.{belongs}
 use Rattle.path_lowering.proofs.Lists.{append-nil}
 use Rattle.path_lowering.proofs.PlacingLemmas.{and_join}
-use Rattle.path_lowering.proofs.SharedLemmas.{in_mapped}
 use Rattle.path_lowering.proofs.SourceLemmas.{items_numbered}
 use Rattle.path_lowering.proofs.TupleLemmas.{AreNumbered, names_differ}
 use Rattle.path_lowering.proofs.SoundForms.{pair_sound}
@@ -100,10 +99,10 @@ module _ (catalog : Catalog) (graph : Graph) (reach : Reach) (sound : IsValidCat
       (column_sound catalog graph 65 reach sound valid other q column (subst (λ (e : Element). column < length (table_at catalog e.table).columns) same (ok.key.places column h)))
       (ap (λ (e : Element). class_of_type (column_at (table_at catalog e.table) column).kind) same))
 
-last_below : (spots : List Spot) → 1 ≤ length spots → last_place spots < length spots
+pub last_below : (spots : List Spot) → 1 ≤ length spots → last_place spots < length spots
 last_below spots h = omega (arith, h)
 
-spot_there : (spots : List Spot) (place : ℕ) → place < length spots → IsIn (spot_at spots place) spots
+pub spot_there : (spots : List Spot) (place : ℕ) → place < length spots → IsIn (spot_at spots place) spots
 spot_there spots place h = in_at spots place (record { kind = Vertex; element = 0; item = 0 }) h
 
 module _ (catalog : Catalog) (graph : Graph) (sound : IsValidCatalog catalog) (valid : IsValidGraph catalog graph) (instance : InstanceRows) (fits : Fits catalog instance) (query : CheckedQuery)
