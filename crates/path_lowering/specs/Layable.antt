@@ -37,6 +37,11 @@ pub record IsLayable (graph : Graph) (path : CheckedPath) (part : PathBlock) : T
   pub few : length part.elements < 2 ^ 32
   pub elements : (items : List ℕ) → length part.elements ≤ length items → (spot : Spot) → IsIn spot (spots_along Vertex part.elements items) → spot.element < count_of_kind graph spot.kind
 
+-- a graph block has not too many places, and its plan has an item for each
+pub record IsPlannable (query : CheckedQuery) (block : Block) : Type 0 where
+  pub few : length (flat_map (λ part. part.tags) block.paths) < 2 ^ 32
+  pub many : length (plan_of (query_singletons query) (flat_map (λ part. part.tags) block.paths)) ≡ length (flat_map (λ part. part.elements) block.paths)
+
 -- a graph block whose path blocks can be laid: it has some places, not too many, and those of one singleton have one element
 pub record IsReady (catalog : Catalog) (graph : Graph) (prefix : ℕ) (query : CheckedQuery) (block : Block) : Type 0 where
   pub valid : IsValidGraph catalog graph
