@@ -4,7 +4,7 @@ use Rattle.std.specs.List.{AllZip, enumerate_from, list_all}
 use Rattle.std.proofs.Math.ListN.{length-map}
 use Rattle.std.proofs.lemmas.Bool.{eqb-true}
 use Rattle.pgq_base.specs.Instances.{InstanceRows}
-use Rattle.multisets.specs.Bags.{IsIn}
+use Rattle.multisets.specs.Bags.{IsIn, IsSameMultiset}
 use Rattle.graph_ast.specs.declared.catalog.Catalog.{Catalog}
 use Rattle.graph_ast.specs.declared.catalog.Graph.{Graph}
 use Rattle.graph_ast.specs.declared.checked.CheckedPath.{CheckedPath}
@@ -18,7 +18,7 @@ use Rattle.graph_ast.specs.Lookups.{graph_at}
 use Rattle.graph_ast.specs.Fits.{Fits, without_rows}
 use Rattle.graph_meaning.specs.Lists.{agree, all_same, tagged}
 use Rattle.graph_meaning.specs.Choices.{choices, expansion_of, operand_at, counts_of}
-use Rattle.graph_meaning.specs.Answers.{query_singletons}
+use Rattle.graph_meaning.specs.Answers.{answer, query_singletons}
 use Rattle.graph_meaning.specs.Blocks.{path_blocks, blocks}
 use Rattle.graph_meaning.proofs.Members.{from_map, from_flat, from_below}
 use Rattle.graph_meaning.proofs.BlockRows.{alternative_is}
@@ -29,9 +29,11 @@ use Rattle.path_lowering.specs.declared.spots.Spot.{Spot}
 use Rattle.path_lowering.specs.Spots.{element_of_kind, same_kind, spots_along}
 use Rattle.path_lowering.specs.Blocks.{laid_tags, laid_spots, own_spots, source_of}
 use Rattle.path_lowering.specs.Selects.{IsBlockLaid}
-use Rattle.path_lowering.specs.Lowered.{laid_block}
+use Rattle.path_lowering.specs.Lowered.{IsUnselected, laid_block, lowered_query}
 use Rattle.path_lowering.specs.Apart.{apart}
-use Rattle.path_lowering.specs.Layable.{IsChoiceAt, IsLayable, IsReady, IsServed}
+use Rattle.path_lowering.specs.Layable.{IsChoiceAt, IsLayable, IsPlannable, IsReady, IsServed}
+use Rattle.sql_algebra.specs.Meaning.{bag}
+use Rattle.path_lowering.proofs.ClosingLemmas.{lowered_is}
 use Rattle.path_lowering.proofs.ApartLemmas.{apart_combines}
 use Rattle.path_lowering.proofs.ConditionLemmas.{tagged_map}
 use Rattle.path_lowering.proofs.Facts.{in_at, in_map}
@@ -145,3 +147,11 @@ module _ (catalog : Catalog) (query : CheckedQuery) (served : IsServed catalog q
           (alike_at same_kind kind_is (λ spot. spot.kind) (query_singletons query) tags spots (laid prefix).kinds name k a b h i)
           (alike_at nat_eq (λ x y e. eqb-true x y e) (λ spot. spot.element) (query_singletons query) tags spots (laid prefix).numbers name k a b h i);
     }
+
+    pub plannable : IsPlannable query block
+    plannable = record { few = (ready 65).few; many = (ready 65).many }
+
+  -- the lowered query means the answer
+  pub served_means : IsUnselected query → (tables : InstanceRows) → Fits catalog tables → IsSameMultiset (answer catalog query [] [] tables) (bag catalog (lowered_query catalog apart query) tables)
+  served_means unselected tables own =
+      lowered_is catalog tables query (record { valid = served.valid; there = graph_in; fits = own }) served.lowerable unselected apart apart_combines

@@ -17,7 +17,8 @@ use Rattle.graph_meaning.specs.Answers.{query_singletons}
 use Rattle.path_lowering.specs.declared.spots.Kind.TheVariants.{Vertex}
 use Rattle.path_lowering.specs.declared.spots.Spot.{Spot}
 use Rattle.path_lowering.specs.Spots.{element_at, spots_along}
-use Rattle.path_lowering.specs.Shown.{count_of_kind}
+use Rattle.path_lowering.specs.Shown.{count_of_kind, HasKey}
+use Rattle.path_lowering.specs.Shortest.{spot_at, last_place}
 use Rattle.path_lowering.specs.Blocks.{IsPart, laid_tags, laid_spots, plan_of, sources_of}
 use Rattle.path_lowering.specs.Lowered.{IsLowerable, laid_block}
 use Rattle.path_lowering.specs.Apart.{apart}
@@ -37,6 +38,11 @@ pub record IsLayable (graph : Graph) (path : CheckedPath) (part : PathBlock) : T
   pub few : length part.elements < 2 ^ 32
   pub elements : (items : List ℕ) → length part.elements ≤ length items → (spot : Spot) → IsIn spot (spots_along Vertex part.elements items) → spot.element < count_of_kind graph spot.kind
 
+-- a graph block has not too many places, and its plan has an item for each
+pub record IsPlannable (query : CheckedQuery) (block : Block) : Type 0 where
+  pub few : length (flat_map (λ part. part.tags) block.paths) < 2 ^ 32
+  pub many : length (plan_of (query_singletons query) (flat_map (λ part. part.tags) block.paths)) ≡ length (flat_map (λ part. part.elements) block.paths)
+
 -- a graph block whose path blocks can be laid: it has some places, not too many, and those of one singleton have one element
 pub record IsReady (catalog : Catalog) (graph : Graph) (prefix : ℕ) (query : CheckedQuery) (block : Block) : Type 0 where
   pub valid : IsValidGraph catalog graph
@@ -55,3 +61,14 @@ pub record IsServed (catalog : Catalog) (query : CheckedQuery) : Type 0 where
   pub valid : IsValidCatalog catalog
   pub graph : query.graph < length catalog.graphs
   pub lowerable : IsLowerable (graph_at catalog query.graph) query
+
+-- two paths, the one in a SELECT of its own, whose first places have one element, and so have the last ones
+pub record AreEnds (catalog : Catalog) (graph : Graph) (own outside : List Spot) : Type 0 where
+  pub some : 1 ≤ length own
+  pub some_outside : 1 ≤ length outside
+  pub first : HasKey catalog graph (spot_at own 0)
+  pub first_outside : HasKey catalog graph (spot_at outside 0)
+  pub same_first : element_at graph (spot_at own 0) ≡ element_at graph (spot_at outside 0)
+  pub last : HasKey catalog graph (spot_at own (last_place own))
+  pub last_outside : HasKey catalog graph (spot_at outside (last_place outside))
+  pub same_last : element_at graph (spot_at own (last_place own)) ≡ element_at graph (spot_at outside (last_place outside))

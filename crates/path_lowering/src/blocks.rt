@@ -76,7 +76,7 @@ fn add_path_singletons<'a>(
 }
 
 /// The singletons of all paths.
-fn query_singletons(alloc: Global, query: &CheckedQuery) -> Result<Vec<&Name>, NoMemory>
+pub(crate) fn query_singletons(alloc: Global, query: &CheckedQuery) -> Result<Vec<&Name>, NoMemory>
     ensures { IfOk result (λ all. map (λ n. n.now) all.items ≡ singletons_of_query query.entry.now) }
 {
     let mut names = Vec::new(alloc);
@@ -321,7 +321,11 @@ fn tags_of<'a>(alloc: Global, parts: &'a [PathBlock]) -> Result<Vec<&'a Tags>, N
 }
 
 /// The items of the places of a graph block.
-fn items_of(alloc: Global, names: &[&Name], parts: &[PathBlock]) -> Result<Vec<u32>, NoMemory>
+pub(crate) fn items_of(
+    alloc: Global,
+    names: &[&Name],
+    parts: &[PathBlock],
+) -> Result<Vec<u32>, NoMemory>
     requires { length (flat_map (λ part. part.tags) parts.now) < 2 ^ 32 }
     ensures { IfOk result (λ items. items.items ≡ planned (map (λ n. n.now) names.now) (flat_map (λ part. part.tags) parts.now)) }
 {

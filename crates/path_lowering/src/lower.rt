@@ -1,9 +1,13 @@
-ghost use Rattle.std.specs.Prelude.{◌≡◌, ◌≤◌, ◌<◌, IfOk, length, map};
-ghost use Rattle.multisets.specs.Bags.{IsIn};
+ghost use Rattle.std.specs.Prelude.{◌≡◌, ◌≤◌, ◌<◌, [], IfOk, length, map};
+ghost use Rattle.multisets.specs.Bags.{IsIn, IsSameMultiset};
+ghost use Rattle.pgq_base.specs.Instances.{InstanceRows};
+ghost use Rattle.graph_ast.specs.Fits.{Fits};
+ghost use Rattle.graph_meaning.specs.Answers.{answer};
+ghost use Rattle.sql_algebra.specs.Meaning.{bag};
 ghost use Rattle.graph_ast.specs.declared.blocks.Block.{Block as ABlock};
 ghost use Rattle.graph_ast.specs.Lookups.{graph_at, vertex_element};
 ghost use Rattle.graph_meaning.specs.Blocks.{blocks as blocks_of};
-ghost use Rattle.path_lowering.specs.Lowered.{lowered_query, or_none as some_or_none, select_of_block as select_of_this_block, select_of_none as select_of_nothing};
+ghost use Rattle.path_lowering.specs.Lowered.{IsUnselected, lowered_query, or_none as some_or_none, select_of_block as select_of_this_block, select_of_none as select_of_nothing};
 ghost use Rattle.path_lowering.specs.Apart.{apart};
 ghost use Rattle.path_lowering.specs.Adding.{null_of};
 ghost use Rattle.path_lowering.specs.Layable.{IsReady, IsServed};
@@ -92,8 +96,7 @@ fn or_none(
     Ok(selects)
 }
 
-/// The SQL query of a query without a selector, from its graph blocks: one SELECT for each, in their order.
-pub fn lower_blocks(
+fn lowered_of(
     alloc: Global,
     catalog: &Catalog,
     query: &CheckedQuery,
@@ -112,4 +115,22 @@ pub fn lower_blocks(
     let selects = selects_of(alloc, &scene, query, blocks)?;
     let selects = or_none(alloc, &scene, selects, query.columns.as_slice())?;
     Ok(SqlQuery { selects })
+}
+
+/// The SQL query of a query from its graph blocks: one SELECT for each, in their order. Of a query without a selector its
+/// rows are those of the answer, each equally often, over every instance that fits.
+pub fn lower_blocks(
+    alloc: Global,
+    catalog: &Catalog,
+    query: &CheckedQuery,
+    blocks: &[Block],
+) -> Result<SqlQuery, NoMemory>
+    requires served { IsServed catalog.now query.now }
+    requires blocks { blocks.now ≡ blocks_of (graph_at catalog.now query.now.graph) query.now }
+    ensures exact { IfOk result (λ sql. sql ≡ lowered_query catalog.now apart query.now) }
+    ensures means { IfOk result (λ sql. IsUnselected query.now → (instance : InstanceRows) → Fits catalog.now instance
+        → IsSameMultiset (answer catalog.now query.now [] [] instance) (bag catalog.now sql instance)) }
+{
+    empty_tables_fit();
+    lowered_of(alloc, catalog, query, blocks)
 }
