@@ -13,7 +13,7 @@ use Rattle.graph_ast.specs.declared.catalog.Catalog.{Catalog}
 use Rattle.graph_ast.specs.declared.checked.CheckedQuery.{CheckedQuery}
 use Rattle.first_faults.specs.declared.faults.Fault.{Fault}
 use Rattle.pattern_parser.specs.Outcomes.{IsOutcome, SpellsQuery}
-use Rattle.pattern_parser.proofs.Whole.{span_in_text}
+use Rattle.token_reading.proofs.RefusalLemmas.{span_in_text}
 use Rattle.pattern_parser.proofs.QuerySpans.{spans_lie}
 use Rattle.pattern_check.specs.Served.{is_served}
 use Rattle.pattern_check.specs.Phases.{first_fault}
