@@ -1,7 +1,7 @@
 ghost use Rattle.std.specs.Prelude.{◌≡◌, ◌⊎◌, [], None, Some, IfSome};
 ghost use Rattle.std.specs.Io.KnownBytes.{Appends};
 ghost use Rattle.pgq_base.specs.Causes.{Rose};
-ghost use Rattle.pgq_program.specs.Commands.{command_of};
+ghost use Rattle.pgq_program.specs.Commands.{command_of, MayBeUsage};
 ghost use Rattle.pgq_program.specs.Runs.{Ran, HasLine};
 
 use crate::disk::DiskShelf;
@@ -13,7 +13,7 @@ use std::rt::Files;
 /// sinks. The answers and their order are those of `pgq`.
 ///
 /// Of the files' content nothing is known here; which text each sink receives under which ending, which
-/// line `err` receives, whom an ending blames, and that the form of the words alone decides
+/// line `err` receives, whom an ending blames, and that only words of another form, or that name tables, are
 /// `Usage`, holds all the same.
 pub(crate) fn run<'a, R: Files + AllocGlobal, S: Sink, E: Sink>(
     rt: &R,
@@ -28,8 +28,8 @@ pub(crate) fn run<'a, R: Files + AllocGlobal, S: Sink, E: Sink>(
     ensures ran { Ran words.now None (⟦<DiskShelf<'a, R> as Shelf>⟧.faults files.old) (⟦<DiskShelf<'a, R> as Shelf>⟧.faults files.new) result
         (S.received out.old) (S.received out.new) (S.faults out.old) (S.faults out.new) (E.received err.old) (E.received err.new) (E.faults err.old) (E.faults err.new) }
 
-    // Usage comes exactly by the form of the words, but for want of memory and a fault of a sink.
-    ensures usage { result ≡ Status.Usage → command_of words.now ≡ None }
+    // Usage comes of words of another form, but for want of memory and a fault of a sink, and where words name tables.
+    ensures usage { result ≡ Status.Usage → MayBeUsage (command_of words.now) }
     ensures form { command_of words.now ≡ None → (result ≡ Status.Usage) ⊎ (result ≡ Status.NoMemory) ⊎ (result ≡ Status.WriteFault) }
 
     // The outside is blamed only where a count rose, or stands at its last value, and no count rose under another answer.

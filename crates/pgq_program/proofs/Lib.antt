@@ -1,9 +1,15 @@
+pub mod AskedFiles
 pub mod Checked
 pub mod CheckedQueries
+pub mod EvaluatedRows
+pub mod EvaluatedTables
 pub mod Given
 pub mod OneDue
 pub mod Placed
 pub mod PlacedFiles
 pub mod PlacedQueries
+pub mod PlacedSqls
+pub mod PlacedTables
 pub mod PlacedTexts
+pub mod RowWidths
 pub mod Translated

@@ -2,7 +2,7 @@
 use Rattle.std.proofs.Common.{◌≡◌, sym, ap, ap₂, ◌∙◌, subst, ℕ, List, length, Option, None, Some, inl, inr, Result, Ok, Err}
 use Rattle.pgq_base.specs.declared.refusal.Refusal.{Refusal}
 use Rattle.pgq_base.specs.declared.refusal.Role.{Role}
-use Rattle.pgq_base.specs.declared.refusal.Role.TheVariants.{Schema, Query}
+use Rattle.pgq_base.specs.declared.refusal.Role.TheVariants.{Schema, Query, Sql}
 use Rattle.sql_lexer.specs.declared.token.Token.{Token}
 use Rattle.sql_lexer.specs.Texts.{refusal}
 use Rattle.sql_lexer.proofs.Uniqueness.{tokens_unique, fault_unique, fault_excludes}
@@ -14,14 +14,23 @@ use Rattle.schema_parser.proofs.Whole.{one_outcome}
 use Rattle.pattern_parser.specs.Outcomes as query
 use Rattle.pattern_parser.proofs.Whole as query_text
 use Rattle.pattern_check.specs.Checks as rules
+use Rattle.sql_algebra.specs.declared.tree.SqlQuery.{SqlQuery}
+use Rattle.sql_algebra.specs.Meaning.{names_of}
+use Rattle.sql_parser.specs.Outcomes as sql
+use Rattle.sql_parser.proofs.Whole as sql_text
+use Rattle.sql_reader.specs.Queries as sql_rules
+use Rattle.table_words.specs.declared.word.TableWord.{TableWord}
+use Rattle.table_files.specs.TablePlaces.{table_places}
 use Rattle.pgq_program.specs.declared.halt.Halt.{Halt}
 use Rattle.pgq_program.specs.declared.halt.Halt.TheVariants as h
 use Rattle.pgq_program.specs.Chains.{Then, Only}
 use Rattle.pgq_program.specs.Commands.{Asked}
 use Rattle.pgq_program.specs.Outcomes.{Outcome}
 use Rattle.pgq_program.specs.Queries.{served, IsJudged, IsQueryRead}
+use Rattle.pgq_program.specs.Rows.{IsSqlRead}
+use Rattle.pgq_program.specs.Halts.{places_or}
 use Rattle.pgq_program.specs.Schemas.{IsLexed, IsChecked, IsRead}
-use Rattle.pgq_program.specs.Steps.{Halted, IsCatalogAt, IsQueryAt, IsCheckedAt, Owes, text_at, translate_due}
+use Rattle.pgq_program.specs.Steps.{Halted, IsCatalogAt, IsQueryAt, IsCheckedAt, IsSqlAt, rows_at, IsTableAt, IsTableOf, Owes, text_at, translate_due}
 
 abbrev pub IsSingle : {A E : Type 0} → (Result A E → Type 0) → Type 0
 IsSingle {A} {E} due = (x y : Result A E) → due x → due y → x ≡ y
@@ -107,6 +116,27 @@ single_checked_at : (schema name : List ℕ) (files : List (List ℕ × List ℕ
 single_checked_at schema name files =
     single_then (IsCatalogAt schema files) (λ catalog. IsQueryAt catalog name files) (single_catalog_at schema files) (λ catalog. single_query_at catalog name files)
 
+single_sql : (catalog : Catalog) (text : List ℕ) → IsSingle (IsSqlRead catalog text)
+single_sql catalog text = single_then (IsLexed Sql text) (λ tokens. Then (sql.IsOutcome tokens (length text)) (λ tree. Only (sql_rules.due catalog tree))) (single_lexed Sql text)
+    (λ tokens. single_then (sql.IsOutcome tokens (length text)) (λ tree. Only (sql_rules.due catalog tree)) (sql_text.one_outcome tokens (length text)) (λ tree. single_only (sql_rules.due catalog tree)))
+
+single_sql_at : (catalog : Catalog) (name : List ℕ) (files : List (List ℕ × List ℕ)) → IsSingle (IsSqlAt catalog name files)
+single_sql_at catalog name files =
+    single_then (Only (text_at Sql name files)) (λ text. Halted (IsSqlRead catalog text)) (single_only (text_at Sql name files))
+    (λ text. single_halted (IsSqlRead catalog text) (single_sql catalog text))
+
+single_table_at : (catalog : Catalog) (words : List TableWord) (places sql : List ℕ) (files : List (List ℕ × List ℕ)) → IsSingle (IsTableAt catalog words places sql files)
+single_table_at catalog words places sql files =
+    single_then (IsSqlAt catalog sql files) (λ query. Then (Only (rows_at catalog query words places files)) (λ rows. Only (Ok (Outcome.Table (names_of query) rows)))) (single_sql_at catalog sql files)
+    (λ query. single_then (Only (rows_at catalog query words places files)) (λ rows. Only (Ok (Outcome.Table (names_of query) rows))) (single_only (rows_at catalog query words places files))
+    (λ rows. single_only (Ok (Outcome.Table (names_of query) rows))))
+
+single_table_of : (schema sql : List ℕ) (words : List TableWord) (files : List (List ℕ × List ℕ)) → IsSingle (IsTableOf schema sql words files)
+single_table_of schema sql words files =
+    single_then (IsCatalogAt schema files) (λ catalog. Then (Only (places_or (table_places catalog words))) (λ places. IsTableAt catalog words places sql files)) (single_catalog_at schema files)
+    (λ catalog. single_then (Only (places_or (table_places catalog words))) (λ places. IsTableAt catalog words places sql files) (single_only (places_or (table_places catalog words)))
+    (λ places. single_table_at catalog words places sql files))
+
 -- the words are due one answer
 pub single_owes : (asked : Option Asked) (files : List (List ℕ × List ℕ)) (x y : Result Outcome Halt) → Owes asked files x → Owes asked files y → x ≡ y
 single_owes None files = λ x y p q. p ∙ sym q
@@ -117,3 +147,4 @@ single_owes (Some (Asked.OfCheck schema)) files =
 single_owes (Some (Asked.OfCheckQuery schema name)) files =
     single_then (IsCheckedAt schema name files) (λ checked. Only (Ok (Outcome.Weighed checked.weight))) (single_checked_at schema name files)
     (λ checked. single_only (Ok (Outcome.Weighed checked.weight)))
+single_owes (Some (Asked.OfEval schema sql words)) files = single_table_of schema sql words files

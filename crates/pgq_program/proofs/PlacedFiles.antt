@@ -3,7 +3,7 @@ use Rattle.std.proofs.Common.{◌≡◌, refl, ap, subst, sym, ℕ, List, length
 use Rattle.pgq_base.specs.Files.{content_of}
 use Rattle.pgq_base.specs.declared.refusal.Refusal.{Refusal}
 use Rattle.pgq_base.specs.declared.refusal.Role.{Role}
-use Rattle.pgq_base.specs.declared.refusal.Role.TheVariants.{Schema, Query}
+use Rattle.pgq_base.specs.declared.refusal.Role.TheVariants.{Schema, Query, Sql}
 use Rattle.edge_meaning.specs.declared.graph.EdgeGraph.{EdgeGraph}
 use Rattle.edge_meaning.specs.declared.query.EdgeQuery.{EdgeQuery}
 use Rattle.edge_texts.specs.Refusals.{schema_due}
@@ -19,11 +19,17 @@ use Rattle.pgq_program.specs.declared.status.Status.TheVariants.{Refused}
 use Rattle.pgq_program.specs.Commands.{Asked}
 use Rattle.pgq_program.specs.Places.{NamesPart, IsLineDue, of_role, text_for}
 use Rattle.pgq_program.specs.Runs.{IsDue, status_of, err_text}
-use Rattle.pgq_program.specs.Steps.{Owes, IsCatalogAt, IsCheckedAt, halting, held_text, text_at, graph_at, query_at, translate_due}
+use Rattle.pgq_program.specs.Halts.{halting}
+use Rattle.pgq_program.specs.Steps.{Owes, IsTableOf, IsCatalogAt, IsCheckedAt, held_text, text_at, graph_at, query_at, translate_due}
 use Rattle.pgq_program.specs.Texts.{next, sized, checked}
 use Rattle.pgq_program.proofs.Placed.{IsPlaced, read}
 use Rattle.pgq_program.proofs.PlacedQueries.{query_read}
-use Rattle.pgq_program.proofs.PlacedTexts.{refused_next, given_next, too_large, within_size, formless, names_lie, schema_part, query_part}
+use Rattle.pgq_program.proofs.PlacedSqls.{sql_read, too_many_lies}
+use Rattle.pgq_program.proofs.PlacedTables.{IsTablePlaced, table_part, rows_placed, places_not_refused}
+use Rattle.pgq_program.specs.Rows.{too_many}
+use Rattle.table_words.specs.declared.word.TableWord.{TableWord}
+use Rattle.table_files.specs.TablePlaces.{table_places}
+use Rattle.pgq_program.proofs.PlacedTexts.{refused_next, given_next, too_large, within_size, formless, names_lie, schema_part, query_part, sql_part}
 
 halted : {A : Type 0} (due : Result A Refusal) (r : Refusal) → halting due ≡ Err (h.Refused r) → due ≡ Err r
 halted (Ok x) r e = absurd cc
@@ -73,41 +79,60 @@ module _ (files : List (List ℕ × List ℕ)) (name : List ℕ) where
 
 -- ---- the words
 
-in_schema : (schema query : Option (List ℕ)) (r : Refusal) → OfText (λ text. IsPlaced Schema (length text) r) schema → NamesPart (of_role schema query) r
-in_schema schema query r (text, held, placed) = subst (λ o. NamesPart (of_role o query) r) (sym held) (schema_part text query r placed)
+in_schema : (schema query sql : Option (List ℕ)) (r : Refusal) → OfText (λ text. IsPlaced Schema (length text) r) schema → NamesPart (of_role schema query sql) r
+in_schema schema query sql r (text, held, placed) = subst (λ o. NamesPart (of_role o query sql) r) (sym held) (schema_part text query sql r placed)
 
-in_query : (schema query : Option (List ℕ)) (r : Refusal) → OfText (λ text. IsPlaced Query (length text) r) query → NamesPart (of_role schema query) r
-in_query schema query r (text, held, placed) = subst (λ o. NamesPart (of_role schema o) r) (sym held) (query_part schema text r placed)
+in_query : (schema query sql : Option (List ℕ)) (r : Refusal) → OfText (λ text. IsPlaced Query (length text) r) query → NamesPart (of_role schema query sql) r
+in_query schema query sql r (text, held, placed) = subst (λ o. NamesPart (of_role schema o sql) r) (sym held) (query_part schema sql text r placed)
 
-by_translate : (schema query : List ℕ) (files : List (List ℕ × List ℕ)) (r : Refusal) → translate_due schema query files ≡ Err (h.Refused r) → NamesPart (of_role (content_of schema files) (content_of query files)) r
+in_sql : (schema query sql : Option (List ℕ)) (r : Refusal) → OfText (λ text. IsPlaced Sql (length text) r) sql → NamesPart (of_role schema query sql) r
+in_sql schema query sql r (text, held, placed) = subst (λ o. NamesPart (of_role schema query o) r) (sym held) (sql_part schema query text r placed)
+
+by_translate : (schema query : List ℕ) (files : List (List ℕ × List ℕ)) (r : Refusal) → translate_due schema query files ≡ Err (h.Refused r) → NamesPart (of_role (content_of schema files) (content_of query files) None) r
 by_translate schema query files r e = by_graph (refused_next (graph_at schema files) _ (h.Refused r) e)
   where
     by_query : (graph : EdgeGraph) → ((query_at query files ≡ Err (h.Refused r)) ⊎ ((asked : EdgeQuery) × (query_at query files ≡ Ok asked) × (halting (checked graph asked) ≡ Err (h.Refused r))))
-        → NamesPart (of_role (content_of schema files) (content_of query files)) r
-    by_query graph (inl e) = in_query (content_of schema files) (content_of query files) r (refused_query files query r e)
+        → NamesPart (of_role (content_of schema files) (content_of query files) None) r
+    by_query graph (inl e) = in_query (content_of schema files) (content_of query files) None r (refused_query files query r e)
     by_query graph (inr (asked, is, e)) =
         let found = given_query files query asked is in
-        in_query (content_of schema files) (content_of query files) r (found.0, found.1, names_lie graph asked (length found.0) r found.2 (halted (checked graph asked) r e))
+        in_query (content_of schema files) (content_of query files) None r (found.0, found.1, names_lie graph asked (length found.0) r found.2 (halted (checked graph asked) r e))
 
     by_graph : ((graph_at schema files ≡ Err (h.Refused r)) ⊎ ((graph : EdgeGraph) × (graph_at schema files ≡ Ok graph) × (next (query_at query files) (λ asked. halting (checked graph asked)) ≡ Err (h.Refused r))))
-        → NamesPart (of_role (content_of schema files) (content_of query files)) r
-    by_graph (inl e) = in_schema (content_of schema files) (content_of query files) r (refused_graph files schema r e)
+        → NamesPart (of_role (content_of schema files) (content_of query files) None) r
+    by_graph (inl e) = in_schema (content_of schema files) (content_of query files) None r (refused_graph files schema r e)
     by_graph (inr (graph, is, e)) = by_query graph (refused_next (query_at query files) _ (h.Refused r) e)
 
-by_check : (schema query : List ℕ) (files : List (List ℕ × List ℕ)) (r : Refusal) → IsCheckedAt schema query files (Err (h.Refused r)) → NamesPart (of_role (content_of schema files) (content_of query files)) r
-by_check schema query files r (inl fault) = in_schema (content_of schema files) (content_of query files) r (refused_catalog files schema r fault)
-by_check schema query files r (inr (catalog, e, inl fault)) = in_query (content_of schema files) (content_of query files) r (refused_text Query r (content_of query files) fault)
+by_check : (schema query : List ℕ) (files : List (List ℕ × List ℕ)) (r : Refusal) → IsCheckedAt schema query files (Err (h.Refused r)) → NamesPart (of_role (content_of schema files) (content_of query files) None) r
+by_check schema query files r (inl fault) = in_schema (content_of schema files) (content_of query files) None r (refused_catalog files schema r fault)
+by_check schema query files r (inr (catalog, e, inl fault)) = in_query (content_of schema files) (content_of query files) None r (refused_text Query r (content_of query files) fault)
 by_check schema query files r (inr (catalog, e, inr (text, held, fault))) =
-    in_query (content_of schema files) (content_of query files) r (text, read_text Query text (content_of query files) held, query_read catalog text r fault)
+    in_query (content_of schema files) (content_of query files) None r (text, read_text Query text (content_of query files) held, query_read catalog text r fault)
+
+by_rows : (schema sql text : List ℕ) (files : List (List ℕ × List ℕ)) (r : Refusal) → content_of sql files ≡ Some text → (too_many Sql ≡ r) ⊎ IsTablePlaced r
+    → NamesPart (of_role (content_of schema files) None (content_of sql files)) r
+by_rows schema sql text files r held (inl same) = in_sql (content_of schema files) None (content_of sql files) r (text, held, too_many_lies (length text) r same)
+by_rows schema sql text files r held (inr placed) = table_part (content_of schema files) None (content_of sql files) r placed
+
+by_eval : (schema sql : List ℕ) (words : List TableWord) (files : List (List ℕ × List ℕ)) (r : Refusal) → IsTableOf schema sql words files (Err (h.Refused r)) → NamesPart (of_role (content_of schema files) None (content_of sql files)) r
+by_eval schema sql words files r (inl fault) = in_schema (content_of schema files) None (content_of sql files) r (refused_catalog files schema r fault)
+by_eval schema sql words files r (inr (catalog, e, inl fault)) = absurd (places_not_refused (table_places catalog words) r fault)
+by_eval schema sql words files r (inr (catalog, e, inr (places, is, inl (inl fault)))) = in_sql (content_of schema files) None (content_of sql files) r (refused_text Sql r (content_of sql files) fault)
+by_eval schema sql words files r (inr (catalog, e, inr (places, is, inl (inr (text, held, fault))))) =
+    in_sql (content_of schema files) None (content_of sql files) r (text, read_text Sql text (content_of sql files) held, sql_read catalog text r fault)
+by_eval schema sql words files r (inr (catalog, e, inr (places, is, inr (query, (text, held, read), inl fault)))) =
+    by_rows schema sql text files r (read_text Sql text (content_of sql files) held) (rows_placed catalog query words places files r fault)
+by_eval schema sql words files r (inr (catalog, e, inr (places, is, inr (query, at, inr (rows, k, other))))) = absurd cc
 
 placed : (asked : Option Asked) (files : List (List ℕ × List ℕ)) (r : Refusal) → Owes asked files (Err (h.Refused r)) → NamesPart (text_for asked files) r
 placed None files r e = absurd cc
 placed (Some (Asked.OfTranslate schema query)) files r (inl e) = by_translate schema query files r e
 placed (Some (Asked.OfTranslate schema query)) files r (inr (checked, e, other)) = absurd cc
-placed (Some (Asked.OfCheck schema)) files r (inl fault) = in_schema (content_of schema files) None r (refused_catalog files schema r fault)
+placed (Some (Asked.OfCheck schema)) files r (inl fault) = in_schema (content_of schema files) None None r (refused_catalog files schema r fault)
 placed (Some (Asked.OfCheck schema)) files r (inr (catalog, e, other)) = absurd cc
 placed (Some (Asked.OfCheckQuery schema query)) files r (inl fault) = by_check schema query files r fault
 placed (Some (Asked.OfCheckQuery schema query)) files r (inr (checked, e, other)) = absurd cc
+placed (Some (Asked.OfEval schema sql words)) files r fault = by_eval schema sql words files r fault
 
 -- ---- what there is to say
 

@@ -4,7 +4,7 @@ use Rattle.std.specs.Prelude.{nat_le}
 use Rattle.pgq_base.specs.declared.code.Code.TheVariants.{TextTooLarge}
 use Rattle.pgq_base.specs.declared.refusal.Refusal.{Refusal}
 use Rattle.pgq_base.specs.declared.refusal.Role.{Role}
-use Rattle.pgq_base.specs.declared.refusal.Role.TheVariants.{Schema, Query}
+use Rattle.pgq_base.specs.declared.refusal.Role.TheVariants.{Schema, Query, Sql}
 use Rattle.pgq_base.specs.declared.refusal.Stop.{Stop}
 use Rattle.pgq_base.specs.declared.refusal.Stop.TheVariants as s
 use Rattle.edge_meaning.specs.declared.graph.EdgeGraph.{EdgeGraph}
@@ -15,7 +15,7 @@ use Rattle.edge_texts.specs.Queries.{query_of, first_fault}
 use Rattle.edge_texts.specs.QueryRefusals.{query_due}
 use Rattle.edge_texts.specs.Spans.{SpansLieIn}
 use Rattle.edge_texts.proofs.SpansInText.{query_given, fault_lies}
-use Rattle.pgq_program.specs.Places.{NamesPart, StopNamesPart, of_role}
+use Rattle.pgq_program.specs.Places.{IsPart, NamesPart, StopNamesPart, of_role}
 use Rattle.pgq_program.specs.Texts.{next, sized, without, Checked, checked, graph_due, edge_query_due, texts_due, IsStopOf}
 use Rattle.pgq_program.proofs.Placed.{IsPlaced}
 
@@ -61,11 +61,14 @@ names_lie graph asked n r lie e = by (first_fault graph asked) (fault_lies graph
 
 -- ---- both texts
 
-pub schema_part : (schema : List ℕ) (query : Option (List ℕ)) (r : Refusal) → IsPlaced Schema (length schema) r → NamesPart (of_role (Some schema) query) r
-schema_part schema query r placed = record { text = schema; is_text = ap (of_role (Some schema) query) placed.0; in_text = placed.1 }
+pub schema_part : (schema : List ℕ) (query sql : Option (List ℕ)) (r : Refusal) → IsPlaced Schema (length schema) r → NamesPart (of_role (Some schema) query sql) r
+schema_part schema query sql r placed = subst (λ role. IsPart (of_role (Some schema) query sql role) r.span) (sym placed.0) placed.1
 
-pub query_part : (schema : Option (List ℕ)) (query : List ℕ) (r : Refusal) → IsPlaced Query (length query) r → NamesPart (of_role schema (Some query)) r
-query_part schema query r placed = record { text = query; is_text = ap (of_role schema (Some query)) placed.0; in_text = placed.1 }
+pub query_part : (schema sql : Option (List ℕ)) (query : List ℕ) (r : Refusal) → IsPlaced Query (length query) r → NamesPart (of_role schema (Some query) sql) r
+query_part schema sql query r placed = subst (λ role. IsPart (of_role schema (Some query) sql role) r.span) (sym placed.0) placed.1
+
+pub sql_part : (schema query : Option (List ℕ)) (sql : List ℕ) (r : Refusal) → IsPlaced Sql (length sql) r → NamesPart (of_role schema query (Some sql)) r
+sql_part schema query sql r placed = subst (λ role. IsPart (of_role schema query (Some sql) role) r.span) (sym placed.0) placed.1
 
 refused_graph : (schema : List ℕ) (r : Refusal) → graph_due schema ≡ Err r → IsPlaced Schema (length schema) r
 refused_graph schema r e = by (refused_next (sized Schema schema) schema_due r e)
@@ -86,18 +89,18 @@ given_query query asked e =
     let read = given_next (sized Query query) query_due asked e in
     subst (λ (text : List ℕ). SpansLieIn (length text) asked) (sym (within_size Query query read.0 read.1)) (query_given read.0 asked read.2)
 
-pub refused_texts : (schema query : List ℕ) (r : Refusal) → texts_due schema query ≡ Err r → NamesPart (of_role (Some schema) (Some query)) r
+pub refused_texts : (schema query : List ℕ) (r : Refusal) → texts_due schema query ≡ Err r → NamesPart (of_role (Some schema) (Some query) None) r
 refused_texts schema query r e = by_graph (refused_next (graph_due schema) _ r e)
   where
-    by_query : (graph : EdgeGraph) → ((edge_query_due query ≡ Err r) ⊎ ((asked : EdgeQuery) × (edge_query_due query ≡ Ok asked) × (checked graph asked ≡ Err r))) → NamesPart (of_role (Some schema) (Some query)) r
-    by_query graph (inl e) = query_part (Some schema) query r (refused_query query r e)
-    by_query graph (inr (asked, is, e)) = query_part (Some schema) query r (names_lie graph asked (length query) r (given_query query asked is) e)
+    by_query : (graph : EdgeGraph) → ((edge_query_due query ≡ Err r) ⊎ ((asked : EdgeQuery) × (edge_query_due query ≡ Ok asked) × (checked graph asked ≡ Err r))) → NamesPart (of_role (Some schema) (Some query) None) r
+    by_query graph (inl e) = query_part (Some schema) None query r (refused_query query r e)
+    by_query graph (inr (asked, is, e)) = query_part (Some schema) None query r (names_lie graph asked (length query) r (given_query query asked is) e)
 
-    by_graph : ((graph_due schema ≡ Err r) ⊎ ((graph : EdgeGraph) × (graph_due schema ≡ Ok graph) × (next (edge_query_due query) (λ asked. checked graph asked) ≡ Err r))) → NamesPart (of_role (Some schema) (Some query)) r
-    by_graph (inl e) = schema_part schema (Some query) r (refused_graph schema r e)
+    by_graph : ((graph_due schema ≡ Err r) ⊎ ((graph : EdgeGraph) × (graph_due schema ≡ Ok graph) × (next (edge_query_due query) (λ asked. checked graph asked) ≡ Err r))) → NamesPart (of_role (Some schema) (Some query) None) r
+    by_graph (inl e) = schema_part schema (Some query) None r (refused_graph schema r e)
     by_graph (inr (graph, is, e)) = by_query graph (refused_next (edge_query_due query) _ r e)
 
-pub stopped_texts : (schema query : List ℕ) (r : Result (List ℕ) (Stop Refusal)) → IfErr r (λ stop. IsStopOf (texts_due schema query) stop) → IfErr r (λ stop. StopNamesPart (of_role (Some schema) (Some query)) stop)
+pub stopped_texts : (schema query : List ℕ) (r : Result (List ℕ) (Stop Refusal)) → IfErr r (λ stop. IsStopOf (texts_due schema query) stop) → IfErr r (λ stop. StopNamesPart (of_role (Some schema) (Some query) None) stop)
 stopped_texts schema query (Ok text) h = tt
 stopped_texts schema query (Err (s.Refused refusal)) h = refused_texts schema query refusal h
 stopped_texts schema query (Err s.NoMemory) h = tt

@@ -1,10 +1,12 @@
 pub mod Chains
 pub mod Commands
+pub mod Halts
 pub mod Lines
 pub mod Meaning
 pub mod Outcomes
 pub mod Places
 pub mod Queries
+pub mod Rows
 pub mod Runs
 pub mod Schemas
 pub mod Steps

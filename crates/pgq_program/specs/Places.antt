@@ -1,6 +1,7 @@
 -- The place that a refusal names.
 use Rattle.std.specs.Prelude.{◌≡◌, ℕ, List, length, Option, None, Some, Err}
 use Rattle.pgq_base.specs.Files.{content_of}
+use Rattle.pgq_base.specs.declared.refusal.Span.{Span}
 use Rattle.pgq_base.specs.declared.refusal.Role.{Role}
 use Rattle.pgq_base.specs.declared.refusal.Role.TheVariants.{Schema, Query, Sql, Table}
 use Rattle.pgq_base.specs.declared.refusal.Refusal.{Refusal}
@@ -12,25 +13,29 @@ use Rattle.pgq_program.specs.Commands.{Asked}
 use Rattle.pgq_program.specs.Lines.{refusal_line}
 use Rattle.pgq_program.specs.Steps.{Owes}
 
--- the one of two texts that has the role
-abbrev pub of_role : Option (List ℕ) → Option (List ℕ) → Role → Option (List ℕ)
-of_role schema query Schema = schema
-of_role schema query Query = query
-of_role schema query Sql = None
-of_role schema query Table = None
+-- the one of three texts that has the role
+abbrev pub of_role : Option (List ℕ) → Option (List ℕ) → Option (List ℕ) → Role → Option (List ℕ)
+of_role schema query sql Schema = schema
+of_role schema query sql Query = query
+of_role schema query sql Sql = sql
+of_role schema query sql Table = None
 
 -- the text of each role that the words ask for
 abbrev pub text_for : Option Asked → List (List ℕ × List ℕ) → Role → Option (List ℕ)
-text_for None files = of_role None None
-text_for (Some (Asked.OfTranslate schema query)) files = of_role (content_of schema files) (content_of query files)
-text_for (Some (Asked.OfCheck schema)) files = of_role (content_of schema files) None
-text_for (Some (Asked.OfCheckQuery schema query)) files = of_role (content_of schema files) (content_of query files)
+text_for None files = of_role None None None
+text_for (Some (Asked.OfTranslate schema query)) files = of_role (content_of schema files) (content_of query files) None
+text_for (Some (Asked.OfCheck schema)) files = of_role (content_of schema files) None None
+text_for (Some (Asked.OfCheckQuery schema query)) files = of_role (content_of schema files) (content_of query files) None
+text_for (Some (Asked.OfEval schema sql tables)) files = of_role (content_of schema files) None (content_of sql files)
+
+-- the span lies in the text; where there is none it is 0-0
+abbrev pub IsPart : Option (List ℕ) → Span → Type 0
+IsPart None span = (span.from ≡ 0) × (span.to ≡ 0)
+IsPart (Some text) span = LiesIn (length text) span
 
 -- the refusal names a part of the text of its role
-pub record NamesPart (texts : Role → Option (List ℕ)) (refusal : Refusal) : Type 0 where
-  pub text : List ℕ
-  pub is_text : texts refusal.role ≡ Some text
-  pub in_text : LiesIn (length text) refusal.span
+abbrev pub NamesPart : (Role → Option (List ℕ)) → Refusal → Type 0
+NamesPart texts refusal = IsPart (texts refusal.role) refusal.span
 
 -- so does what stops a call, unless it is want of memory
 abbrev pub StopNamesPart : (Role → Option (List ℕ)) → Stop Refusal → Type 0

@@ -1,5 +1,5 @@
 -- What a run answers, and what its sinks receive.
-use Rattle.std.specs.Prelude.{◌≡◌, ℕ, ◌≤◌, ⊤, List, [], Option, None, IfSome, Result, Ok, Err, codes}
+use Rattle.std.specs.Prelude.{◌≡◌, ◌⊎◌, ℕ, ◌≤◌, ⊤, List, [], Option, None, IfSome, Result, Ok, Err, codes}
 use Rattle.std.specs.Io.KnownBytes.{Appends}
 use Rattle.pgq_base.specs.Causes.{Rose}
 use Rattle.pgq_base.specs.Files.{AppendsPrefix}
@@ -10,7 +10,7 @@ use Rattle.pgq_program.specs.declared.status.Status.{Status}
 use Rattle.pgq_program.specs.declared.status.Status.TheVariants.{Done, Refused, Usage, ReadFault, WriteFault, NoMemory}
 use Rattle.pgq_program.specs.declared.answers.Answer.{Answer}
 use Rattle.pgq_program.specs.declared.answers.Answer.TheVariants as a
-use Rattle.pgq_program.specs.Commands.{command_of}
+use Rattle.pgq_program.specs.Commands.{command_of, MayBeUsage}
 use Rattle.pgq_program.specs.Lines.{refusal_line, usage_line, IsLineOf}
 use Rattle.pgq_program.specs.Outcomes.{Outcome, IsTextOf}
 use Rattle.pgq_program.specs.Steps.{Owes}
@@ -59,15 +59,15 @@ pub record Gets (status : Status) (text : List ℕ) (old new : Option (List ℕ)
   pub later : before ≤ now
   pub kept : (status ≡ WriteFault → ⊥) → now ≡ before
 
--- The whole run: some answer was due by the told files and had its cause, by the form of the words it is Usage or not, its line on `err`
+-- The whole run: some answer was due by the told files and had its cause, by the form of the words it may be Usage or not, its line on `err`
 -- is one of its status, and each sink received its text by it.
 pub record Ran (words : List (List ℕ)) (files : Option (List (List ℕ × List ℕ))) (before now : ℕ) (status : Status)
     (out_old out_new : Option (List ℕ)) (out_before out_now : ℕ) (err_old err_new : Option (List ℕ)) (err_before err_now : ℕ) : Type 0 where
   pub answer : Answer
   pub due : IfSome files (λ told. IsDue (Owes (command_of words) told) answer)
   pub cause : AnswerCause before now answer
-  pub form : command_of words ≡ None → status_of answer ≡ Usage
-  pub usage : status_of answer ≡ Usage → command_of words ≡ None
+  pub form : command_of words ≡ None → (status_of answer ≡ Usage) ⊎ (status_of answer ≡ NoMemory)
+  pub usage : status_of answer ≡ Usage → MayBeUsage (command_of words)
   pub line : IsLineOf (status_of answer) (err_text answer)
   pub status_is : (status ≡ WriteFault → ⊥) → status ≡ status_of answer
   pub out : Gets status (out_text answer) out_old out_new out_before out_now

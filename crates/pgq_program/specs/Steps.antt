@@ -3,12 +3,18 @@ use Rattle.std.specs.Prelude.{◌≡◌, ℕ, ◌≤◌, List, ⊤, Option, None
 use Rattle.pgq_base.specs.Causes.{Rose}
 use Rattle.pgq_base.specs.Files.{content_of}
 use Rattle.pgq_base.specs.declared.refusal.Role.{Role}
-use Rattle.pgq_base.specs.declared.refusal.Role.TheVariants.{Schema, Query}
+use Rattle.pgq_base.specs.declared.refusal.Role.TheVariants.{Schema, Query, Sql}
 use Rattle.pgq_base.specs.declared.refusal.Refusal.{Refusal}
 use Rattle.pgq_base.specs.declared.refusal.Stop.{Stop}
 use Rattle.pgq_base.specs.declared.refusal.Stop.TheVariants as s
 use Rattle.graph_ast.specs.declared.catalog.Catalog.{Catalog}
 use Rattle.graph_ast.specs.declared.checked.CheckedQuery.{CheckedQuery}
+use Rattle.pgq_base.specs.Instances.{TableRows, InstanceRows}
+use Rattle.sql_algebra.specs.declared.tree.SqlQuery.{SqlQuery}
+use Rattle.sql_algebra.specs.Meaning.{names_of}
+use Rattle.table_words.specs.declared.word.TableWord.{TableWord}
+use Rattle.table_files.specs.TablePlaces.{table_places}
+use Rattle.table_loads.specs.Loads.{instance_at}
 use Rattle.edge_meaning.specs.declared.graph.EdgeGraph.{EdgeGraph}
 use Rattle.edge_meaning.specs.declared.query.EdgeQuery.{EdgeQuery}
 use Rattle.edge_texts.specs.Refusals.{schema_due}
@@ -17,8 +23,10 @@ use Rattle.pgq_program.specs.declared.halt.Halt.{Halt}
 use Rattle.pgq_program.specs.declared.halt.Halt.TheVariants as h
 use Rattle.pgq_program.specs.Commands.{Asked}
 use Rattle.pgq_program.specs.Chains.{Then, Only}
+use Rattle.pgq_program.specs.Halts.{halting, tables_halting, places_or}
 use Rattle.pgq_program.specs.Outcomes.{Outcome, IsTextOf}
 use Rattle.pgq_program.specs.Queries.{IsQueryRead}
+use Rattle.pgq_program.specs.Rows.{IsSqlRead, rows_due}
 use Rattle.pgq_program.specs.Schemas.{IsRead}
 use Rattle.pgq_program.specs.Texts.{next, sized, checked, Checked}
 
@@ -26,11 +34,6 @@ use Rattle.pgq_program.specs.Texts.{next, sized, checked, Checked}
 abbrev pub halt_of : Stop Refusal → Halt
 halt_of (s.Refused refusal) = h.Refused refusal
 halt_of s.NoMemory = h.NoMemory
-
--- a refusal halts the run
-abbrev pub halting : {A : Type 0} → Result A Refusal → Result A Halt
-halting (Ok x) = Ok x
-halting (Err refusal) = Err (h.Refused refusal)
 
 -- an absent file is a fault
 abbrev pub held_text : Role → Option (List ℕ) → Result (List ℕ) Halt
@@ -71,12 +74,31 @@ IsQueryAt catalog name files answer = Then (Only (text_at Query name files)) (λ
 abbrev pub IsCheckedAt : List ℕ → List ℕ → List (List ℕ × List ℕ) → Result CheckedQuery Halt → Type 0
 IsCheckedAt schema query files answer = Then (IsCatalogAt schema files) (λ catalog. IsQueryAt catalog query files) answer
 
+-- the SQL file is read, and then looked at in the catalog
+abbrev pub IsSqlAt : Catalog → List ℕ → List (List ℕ × List ℕ) → Result SqlQuery Halt → Type 0
+IsSqlAt catalog name files answer = Then (Only (text_at Sql name files)) (λ text. Halted (IsSqlRead catalog text)) answer
+
+-- the rows of a query over the tables of some files
+abbrev pub rows_at : Catalog → SqlQuery → List TableWord → List ℕ → List (List ℕ × List ℕ) → Result TableRows Halt
+rows_at catalog query words places files = next (tables_halting (instance_at catalog files words places)) (λ instance. halting (rows_due Sql catalog query instance))
+
+-- the SQL file, and then the tables' files
+abbrev pub IsTableAt : Catalog → List TableWord → List ℕ → List ℕ → List (List ℕ × List ℕ) → Result Outcome Halt → Type 0
+IsTableAt catalog words places sql files answer =
+    Then (IsSqlAt catalog sql files) (λ query. Then (Only (rows_at catalog query words places files)) (λ rows. Only (Ok (Outcome.Table (names_of query) rows)))) answer
+
+-- the schema file, the names of the tables, the SQL file, and the tables' files
+abbrev pub IsTableOf : List ℕ → List ℕ → List TableWord → List (List ℕ × List ℕ) → Result Outcome Halt → Type 0
+IsTableOf schema sql words files answer =
+    Then (IsCatalogAt schema files) (λ catalog. Then (Only (places_or (table_places catalog words))) (λ places. IsTableAt catalog words places sql files)) answer
+
 -- what the words are due
 abbrev pub Owes : Option Asked → List (List ℕ × List ℕ) → Result Outcome Halt → Type 0
 Owes None files answer = answer ≡ Err h.Usage
 Owes (Some (Asked.OfTranslate schema query)) files answer = Then (Only (translate_due schema query files)) (λ checked. Only (Ok (Outcome.Translation checked.0 checked.1))) answer
 Owes (Some (Asked.OfCheck schema)) files answer = Then (IsCatalogAt schema files) (λ catalog. Only (Ok Outcome.Sound)) answer
 Owes (Some (Asked.OfCheckQuery schema query)) files answer = Then (IsCheckedAt schema query files) (λ checked. Only (Ok (Outcome.Weighed checked.weight))) answer
+Owes (Some (Asked.OfEval schema sql tables)) files answer = IsTableOf schema sql tables files answer
 
 -- this answer is due, or it is want of memory or a fault, which have their own clauses
 abbrev pub StepGives : {A : Type 0} → (Result A Halt → Type 0) → Result A Halt → Type 0

@@ -2,6 +2,8 @@
 #![tactic(auto)]
 
 mod answers;
+mod evaluating;
+mod evaluation;
 mod halt;
 mod laws;
 mod lines;

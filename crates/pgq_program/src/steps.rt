@@ -1,16 +1,17 @@
-ghost use Rattle.std.specs.Prelude.{◌≡◌, ◌≤◌, ◌++◌, IfSome, IfOk, IfErr, IsOkAnd, IsErrOf, None, Some, Err, length, codes, decimal};
+ghost use Rattle.std.specs.Prelude.{◌≡◌, ◌≤◌, ◌⊎◌, ◌++◌, IfSome, IfOk, IfErr, IsOkAnd, IsErrOf, None, Some, Err, length, codes, decimal};
 ghost use Rattle.multisets.specs.Bags.{IsIn};
 ghost use Rattle.edge_meaning.specs.Queries.{IsGraph, IsPattern, IsOfPattern};
 ghost use Rattle.graph_ast.specs.Catalogs.{IsValidCatalog};
 ghost use Rattle.pgq_base.specs.Files.{IsAsked};
 ghost use Rattle.pgq_program.specs.Chains.{Only};
 ghost use Rattle.pgq_program.specs.Commands.Asked.{OfTranslate, OfCheck, OfCheckQuery};
-ghost use Rattle.pgq_program.specs.Commands.{command_of};
+ghost use Rattle.pgq_program.specs.Commands.{command_of, MayBeUsage};
 ghost use Rattle.pgq_program.specs.Meaning.{Means};
 ghost use Rattle.pgq_program.specs.Queries.{IsQueryRead};
 ghost use Rattle.pgq_program.specs.Schemas.{IsRead};
 ghost use Rattle.pgq_program.specs.Steps.{StepGives, StepWrites, IsHaltOf, HaltCause, text_at, graph_at, query_at, translate_due, Halted, IsCatalogAt, IsQueryAt, IsCheckedAt, Owes};
 
+use crate::evaluating::eval;
 use crate::halt::Halt;
 use crate::lines::put_number;
 use crate::queries::read_checked;
@@ -23,7 +24,12 @@ use graph_ast::{Catalog, CheckedQuery};
 use pgq_base::{List, LoadStop, NoMemory, Role, Shelf, Stop, Text, load};
 use std::alloc::Global;
 
-fn text_of<F: Shelf>(alloc: Global, files: &mut F, role: Role, name: &str) -> Result<List<u8>, Halt>
+pub(crate) fn text_of<F: Shelf>(
+    alloc: Global,
+    files: &mut F,
+    role: Role,
+    name: &str,
+) -> Result<List<u8>, Halt>
     requires { IsAsked name.now (F.words files.old) }
     ensures words { F.words files.new ≡ F.words files.old }
     ensures files { F.files files.new ≡ F.files files.old }
@@ -121,7 +127,11 @@ fn catalog_in(alloc: Global, text: &[u8]) -> Result<Catalog, Halt>
     }
 }
 
-fn catalog_of<F: Shelf>(alloc: Global, files: &mut F, name: &str) -> Result<Catalog, Halt>
+pub(crate) fn catalog_of<F: Shelf>(
+    alloc: Global,
+    files: &mut F,
+    name: &str,
+) -> Result<Catalog, Halt>
     requires { IsAsked name.now (F.words files.old) }
     ensures words { F.words files.new ≡ F.words files.old }
     ensures files { F.files files.new ≡ F.files files.old }
@@ -238,13 +248,16 @@ pub(crate) fn answer<F: Shelf>(
     ensures files { F.files files.new ≡ F.files files.old }
     ensures cause { HaltCause (F.faults files.old) (F.faults files.new) result }
     ensures told { IfSome (F.files files.old) (λ told. StepWrites (Owes (command_of words.now) told) result) }
-    ensures usage { command_of words.now ≡ None → result ≡ Err Halt.Usage }
-    ensures asked { IsErrOf result Halt.Usage → command_of words.now ≡ None }
+    ensures usage { command_of words.now ≡ None → (result ≡ Err Halt.Usage) ⊎ (result ≡ Err Halt.NoMemory) }
+    ensures asked { IsErrOf result Halt.Usage → MayBeUsage (command_of words.now) }
 {
-    match read_words(words) {
+    match read_words(alloc, words)? {
         None => Err(Halt::Usage),
         Some(Command::Translate(schema, query)) => translate(alloc, files, schema, query),
         Some(Command::Check(schema)) => check(alloc, files, schema),
         Some(Command::CheckQuery(schema, query)) => check_with_query(alloc, files, schema, query),
+        Some(Command::Eval(schema, sql, tables)) => {
+            eval(alloc, files, schema, sql, tables.as_slice())
+        }
     }
 }

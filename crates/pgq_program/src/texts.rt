@@ -75,7 +75,7 @@ pub(crate) fn sql_text(
 pub fn translate_texts(alloc: Global, schema: &[u8], query: &[u8]) -> Result<List<u8>, Stop>
     ensures means { IfOk result (λ text. IsOkAnd (texts_due schema.now query.now) (λ due. Means due.0 due.1 text)) }
     ensures refused { IfErr result (λ stop. IsStopOf (texts_due schema.now query.now) stop) }
-    ensures in_text { IfErr result (StopNamesPart (of_role (Some schema.now) (Some query.now))) }
+    ensures in_text { IfErr result (StopNamesPart (of_role (Some schema.now) (Some query.now) None)) }
 {
     text_over(alloc, schema, query)
 }

@@ -1,8 +1,8 @@
 ghost use Rattle.std.specs.Prelude.{◌≡◌, ◌⊎◌, ◌≤◌, ℕ, List, [], None, Some, IfSome, Ok, Err};
 ghost use Rattle.std.specs.Io.KnownBytes.{Appends};
 ghost use Rattle.pgq_base.specs.Causes.{Rose};
-ghost use Rattle.pgq_program.specs.declared.halt.Halt.TheVariants.{Refused as IsRefused};
-ghost use Rattle.pgq_program.specs.Commands.{command_of};
+ghost use Rattle.pgq_program.specs.declared.halt.Halt.TheVariants.{Refused as IsRefused, Usage as IsUsage};
+ghost use Rattle.pgq_program.specs.Commands.{command_of, MayBeUsage};
 ghost use Rattle.pgq_program.specs.Lines.{refusal_line, IsLineOf};
 ghost use Rattle.pgq_program.specs.Outcomes.{Outcome, IsTextOf, Writes};
 ghost use Rattle.pgq_program.specs.Places.{IsLineDue};
@@ -21,7 +21,8 @@ use std::alloc::Global;
 /// Does what the words ask for, with the files of the shelf, and puts the outcome on the two sinks.
 ///
 /// `translate SCHEMA QUERY` writes the SQL text that means the query over the tables of the schema,
-/// `check SCHEMA` writes `ok`, and `check SCHEMA QUERY` writes `ok, weight W`, W the query's weight in decimal. Words of
+/// `check SCHEMA` writes `ok`, `check SCHEMA QUERY` writes `ok, weight W`, W the query's weight in decimal, and
+/// `eval SCHEMA SQL TABLE=FILE ..` the table text of the SQL text over the tables of the files. Words of
 /// another form are `Usage`. Things are looked at in this order: the words; the schema file, by its size and then its form,
 /// under `check` by its tokens, its grammar and its rules; the query file, by its size and then its form and its names, under
 /// `check` by its tokens, its grammar and its rules. The first of them that is at fault gives the answer.
@@ -61,8 +62,12 @@ pub fn pgq<F: Shelf, S: Sink, E: Sink>(
     ensures told { result ≡ Status.Refused → IfSome (F.files files.old) (λ told. (line : List ℕ) × IsLineDue (command_of words.now) told line
         × Appends (E.received err.old) (E.received err.new) line) }
 
-    // Usage comes exactly by the form of the words, but for want of memory and a fault of a sink.
-    ensures usage { result ≡ Status.Usage → command_of words.now ≡ None }
+    // Usage comes exactly by the form of the words, and where a table that they name is unknown or stands twice, but for want of memory and a
+    // fault of a sink.
+    ensures usage { result ≡ Status.Usage → MayBeUsage (command_of words.now) × IfSome (F.files files.old) (λ told. Owes (command_of words.now) told (Err IsUsage)) }
+    ensures used { IfSome (F.files files.old) (λ told. Owes (command_of words.now) told (Err IsUsage)
+        → (Rose (F.faults files.old) (F.faults files.new) → ⊥) → (Rose (S.faults out.old) (S.faults out.new) → ⊥) → (Rose (E.faults err.old) (E.faults err.new) → ⊥)
+        → (result ≡ Status.Usage) ⊎ (result ≡ Status.NoMemory)) }
     ensures form { command_of words.now ≡ None → (result ≡ Status.Usage) ⊎ (result ≡ Status.NoMemory) ⊎ (result ≡ Status.WriteFault) }
 
     // The outside is blamed only where a count rose, or stands at its last value, and no count rose under another answer.
@@ -94,13 +99,16 @@ fn decide<F: Shelf>(alloc: Global, words: &[Text], files: &mut F) -> Answer
     ensures cause { AnswerCause (F.faults files.old) (F.faults files.new) result }
     ensures due { IfSome (F.files files.old) (λ told. IsDue (Owes (command_of words.now) told) result) }
     ensures line { IsLineOf (status_of result) (err_text result) }
-    ensures form { command_of words.now ≡ None → status_of result ≡ Status.Usage }
-    ensures usage { status_of result ≡ Status.Usage → command_of words.now ≡ None }
+    ensures form { command_of words.now ≡ None → (status_of result ≡ Status.Usage) ⊎ (status_of result ≡ Status.NoMemory) }
+    ensures usage { status_of result ≡ Status.Usage → MayBeUsage (command_of words.now) }
     ensures told { status_of result ≡ Status.Refused → IfSome (F.files files.old) (λ told. IsLineDue (command_of words.now) told (err_text result)) }
     ensures complete { IfSome (F.files files.old) (λ told. (outcome : Outcome) → Owes (command_of words.now) told (Ok outcome) → (Rose (F.faults files.old) (F.faults files.new) → ⊥)
         → ((status_of result ≡ Status.Done) × IsTextOf outcome (out_text result)) ⊎ (status_of result ≡ Status.NoMemory)) }
     ensures refused { IfSome (F.files files.old) (λ told. (refusal : _) → Owes (command_of words.now) told (Err (IsRefused refusal)) → (Rose (F.faults files.old) (F.faults files.new) → ⊥)
         → ((status_of result ≡ Status.Refused) × (err_text result ≡ refusal_line refusal)) ⊎ (status_of result ≡ Status.NoMemory)) }
+    ensures used { IfSome (F.files files.old) (λ told. Owes (command_of words.now) told (Err IsUsage) → (Rose (F.faults files.old) (F.faults files.new) → ⊥)
+        → (status_of result ≡ Status.Usage) ⊎ (status_of result ≡ Status.NoMemory)) }
+    ensures owed { status_of result ≡ Status.Usage → IfSome (F.files files.old) (λ told. Owes (command_of words.now) told (Err IsUsage)) }
 {
     answer_of(alloc, words, files)
 }
@@ -112,8 +120,8 @@ fn answer_of<F: Shelf>(alloc: Global, words: &[Text], files: &mut F) -> Answer
     ensures cause { AnswerCause (F.faults files.old) (F.faults files.new) result }
     ensures due { IfSome (F.files files.old) (λ told. IsDue (Owes (command_of words.now) told) result) }
     ensures line { IsLineOf (status_of result) (err_text result) }
-    ensures form { command_of words.now ≡ None → status_of result ≡ Status.Usage }
-    ensures usage { status_of result ≡ Status.Usage → command_of words.now ≡ None }
+    ensures form { command_of words.now ≡ None → (status_of result ≡ Status.Usage) ⊎ (status_of result ≡ Status.NoMemory) }
+    ensures usage { status_of result ≡ Status.Usage → MayBeUsage (command_of words.now) }
 {
     match answer(alloc, words, files) {
         Ok(text) => Answer::Done(text),

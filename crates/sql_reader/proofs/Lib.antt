@@ -17,6 +17,7 @@ pub mod ShapedLiterals
 pub mod RuleValues
 pub mod ShapedConditions
 pub mod ShapedTexts
+pub mod FilledTexts
 pub mod FaultSpans
 pub mod SoundAnswers
 pub mod SizedTokens

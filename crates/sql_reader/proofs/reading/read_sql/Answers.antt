@@ -2,6 +2,7 @@ use Rattle.std.proofs.Common.{subst, Ok}
 use Rattle.pgq_base.specs.Answers.{Gives}
 use Rattle.sql_reader.proofs.ReadingLemmas.{from_text, from_stop, is_read}
 use Rattle.sql_reader.proofs.ShapedTexts.{has_shape}
+use Rattle.sql_reader.proofs.FilledTexts.{judged_filled}
 use Rattle.sql_reader.proofs.SoundAnswers.{judged_sound, judged_spelled, in_order_lie}
 use Rattle.sql_reader.proofs.reading.read_sql.Goals as goal
 
@@ -15,6 +16,10 @@ returns-in-Err-clause-due c = from_stop c.args.tokens.now c.args.end c.args.cata
 pub returns-in-Ok-clause-sound : goal.returns-in-Ok-clause-sound
 returns-in-Ok-clause-sound c = λ sized.
     judged_sound c.args.catalog.now c.in-Ok.text (has_shape c.args.tokens.now c.in-Ok.text sized c.in-Ok.ensures.ok) c.judge_text.result c.judge_text.ensures.answer
+
+pub returns-in-Ok-clause-columns : goal.returns-in-Ok-clause-columns
+returns-in-Ok-clause-columns c = λ sized.
+    judged_filled c.args.catalog.now c.in-Ok.text c.args.tokens.now sized c.in-Ok.ensures.ok c.judge_text.result c.judge_text.ensures.answer
 
 pub returns-in-Ok-clause-spelled : goal.returns-in-Ok-clause-spelled
 returns-in-Ok-clause-spelled c =

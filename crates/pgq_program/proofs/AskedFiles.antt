@@ -1,0 +1,87 @@
+-- The files of a command are files that its words ask for.
+use Rattle.std.proofs.Common.{◌≡◌, refl, sym, ap, ◌∙◌, subst, ℕ, ◌≤◌, ◌⊎◌, inl, inr, Bool, true, false, cond, List, [], ◌∷◌, drop, slice_get, Option, None, Some, option_map, IfSome, IfOk, Result, Ok, Err, codes, bytes_eq, All, arith}
+use Rattle.std.specs.Cmp.Lexicographic.{nat_list_eq_equiv}
+use Rattle.pgq_base.specs.Files.{sample_word, IsAsked}
+use Rattle.table_words.specs.declared.word.TableWord.{TableWord}
+use Rattle.table_words.specs.TableWords.{table_words}
+use Rattle.pgq_program.specs.declared.words.Command.{Command}
+use Rattle.pgq_program.specs.Commands.{Asked, view, command_of, of_two, no_more, Asks}
+
+same_bytes : (a b : List ℕ) → bytes_eq a b ≡ true → a ≡ b
+same_bytes a b h = nat_list_eq_equiv.equal a b h
+
+-- a command that is not `sample`
+NotSample : List ℕ → Type 0
+NotSample command = command ≡ sample_word → ⊥
+
+first_is : (a b : List ℕ) → (let o : Option (List ℕ) = Some a in o) ≡ Some b → a ≡ b
+first_is a b h = cc
+
+second : (command a : List ℕ) (more : List (List ℕ)) → NotSample command → IsAsked a (command ∷ a ∷ more)
+unfolding NotSample
+second command a more no = record { command = λ h. no (first_is command sample_word h); place = inl refl }
+
+third : (command a b : List ℕ) (more : List (List ℕ)) → NotSample command → IsAsked b (command ∷ a ∷ b ∷ more)
+unfolding NotSample
+third command a b more no = record { command = λ h. no (first_is command sample_word h); place = inr (inl refl) }
+
+no_sample : (command word : List ℕ) → bytes_eq command word ≡ true → (word ≡ sample_word → ⊥) → NotSample command
+unfolding NotSample
+no_sample command word h differ e = differ (sym (same_bytes command word h) ∙ e)
+
+check_differs : codes "check" ≡ sample_word → ⊥
+check_differs h = cc
+
+translate_differs : codes "translate" ≡ sample_word → ⊥
+translate_differs h = cc
+
+eval_differs : codes "eval" ≡ sample_word → ⊥
+eval_differs h = cc
+
+-- the files of words TABLE=FILE behind the first three
+abbrev pub FilesAsked : Type 0
+FilesAsked = (words : List (List ℕ)) (asked : List TableWord) → (slice_get words 0 ≡ Some sample_word → ⊥) → table_words (drop 3 words) ≡ Some asked → All (λ table. IsAsked table.file words) asked
+
+abbrev Held : List (List ℕ) → Option Asked → Type 0
+Held words asked = IfSome asked (λ asked. Asks asked words)
+
+by_check : (command a : List ℕ) (b : Bool) → bytes_eq command (codes "check") ≡ b → Held (command ∷ a ∷ []) (cond b (Some (Asked.OfCheck a)) None)
+by_check command a true h = second command a [] (no_sample command (codes "check") h check_differs)
+by_check command a false h = tt
+
+by_two : (command a b : List ℕ) (t c : Bool) → bytes_eq command (codes "translate") ≡ t → bytes_eq command (codes "check") ≡ c
+    → Held (command ∷ a ∷ b ∷ []) (cond t (Some (Asked.OfTranslate a b)) (cond c (Some (Asked.OfCheckQuery a b)) None))
+by_two command a b true c h k = (second command a (b ∷ []) (no_sample command (codes "translate") h translate_differs), third command a b [] (no_sample command (codes "translate") h translate_differs))
+by_two command a b false true h k = (second command a (b ∷ []) (no_sample command (codes "check") k check_differs), third command a b [] (no_sample command (codes "check") k check_differs))
+by_two command a b false false h k = tt
+
+by_more : (command a b : List ℕ) (more : List (List ℕ)) → Held (command ∷ a ∷ b ∷ more) (no_more (of_two command a b) more)
+by_more command a b [] = by_two command a b (bytes_eq command (codes "translate")) (bytes_eq command (codes "check")) refl refl
+by_more command a b (word ∷ more) = tt
+
+by_tables : (command a b : List ℕ) (more : List (List ℕ)) → FilesAsked → bytes_eq command (codes "eval") ≡ true → (tables : Option (List TableWord)) → table_words more ≡ tables
+    → Held (command ∷ a ∷ b ∷ more) (option_map (λ tables. Asked.OfEval a b tables) tables)
+by_tables command a b more files h None is = tt
+by_tables command a b more files h (Some tables) is =
+    let no = no_sample command (codes "eval") h eval_differs in
+    (second command a (b ∷ more) no, third command a b more no, files (command ∷ a ∷ b ∷ more) tables (λ e. no (first_is command sample_word e)) is)
+
+by_eval : (command a b : List ℕ) (more : List (List ℕ)) → FilesAsked → (e : Bool) → bytes_eq command (codes "eval") ≡ e
+    → Held (command ∷ a ∷ b ∷ more) (cond e (option_map (λ tables. Asked.OfEval a b tables) (table_words more)) (no_more (of_two command a b) more))
+by_eval command a b more files true h = by_tables command a b more files h (table_words more) refl
+by_eval command a b more files false h = by_more command a b more
+
+held : FilesAsked → (words : List (List ℕ)) → Held words (command_of words)
+held files [] = tt
+held files (command ∷ []) = tt
+held files (command ∷ a ∷ []) = by_check command a (bytes_eq command (codes "check")) refl
+held files (command ∷ a ∷ b ∷ more) = by_eval command a b more files (bytes_eq command (codes "eval")) refl
+
+shown : (words : List (List ℕ)) (asked : Option Command) → Held words (option_map view asked) → IfSome asked (λ command. Asks (view command) words)
+shown words None h = tt
+shown words (Some command) h = h
+
+pub asks_if : (words : List (List ℕ)) (r : Result (Option Command) NoMemory) → IfOk r (λ asked. option_map view asked ≡ command_of words) → FilesAsked
+    → IfOk r (λ asked. IfSome asked (λ command. Asks (view command) words))
+asks_if words (Ok asked) is files = shown words asked (subst (Held words) (sym is) (held files words))
+asks_if words (Err e) is files = tt

@@ -1,0 +1,88 @@
+-- What is answered of an SQL text and of the tables of a command is what the words are due.
+use Rattle.std.proofs.Common.{◌≡◌, refl, sym, ap, subst, ◌∙◌, ℕ, ◌≤◌, List, length, inl, inr, Option, None, Some, IfSome, IfOk, IfErr, IsErrOf, Result, Ok, Err}
+use Rattle.pgq_base.specs.Answers.{Gives}
+use Rattle.pgq_base.specs.Instances.{TableRows, InstanceRows}
+use Rattle.pgq_base.specs.declared.refusal.Refusal.{Refusal}
+use Rattle.pgq_base.specs.declared.refusal.Role.TheVariants.{Sql}
+use Rattle.pgq_base.specs.declared.refusal.Stop.{Stop}
+use Rattle.pgq_base.specs.declared.refusal.Stop.TheVariants.{Refused, NoMemory}
+use Rattle.sql_lexer.specs.declared.token.Token.{Token}
+use Rattle.sql_lexer.specs.Texts.{AreTokens, most_tokens}
+use Rattle.graph_ast.specs.declared.catalog.Catalog.{Catalog}
+use Rattle.sql_algebra.specs.declared.tree.SqlQuery.{SqlQuery}
+use Rattle.sql_algebra.specs.Meaning.{names_of}
+use Rattle.sql_parser.specs.Outcomes.{IfRefused, IsFirstFault}
+use Rattle.sql_reader.specs.Reading.{IsRead}
+use Rattle.table_words.specs.declared.word.TableWord.{TableWord}
+use Rattle.table_files.specs.TablePlaces.{table_places}
+use Rattle.pgq_program.specs.declared.halt.Halt.{Halt}
+use Rattle.pgq_program.specs.declared.halt.Halt.TheVariants as h
+use Rattle.pgq_program.specs.Chains.{Only}
+use Rattle.pgq_program.specs.Halts.{places_or}
+use Rattle.pgq_program.specs.Outcomes.{Outcome}
+use Rattle.pgq_program.specs.Rows.{IsSqlRead, WritesTable}
+use Rattle.pgq_program.specs.Steps.{StepGives, StepWrites, Halted, IsCatalogAt, IsSqlAt, rows_at, IsTableAt, IsTableOf, text_at}
+use Rattle.pgq_program.specs.Texts.{GivesDue}
+
+-- what the SQL rules answer of the tokens
+pub at_sql : (catalog : Catalog) (text : List ℕ) (tokens : List Token) (r : Result SqlQuery (Stop Refusal)) → AreTokens text tokens → length tokens ≤ most_tokens
+    → (seen : List Token) → seen ≡ tokens → (end : ℕ) → end ≡ length text → IfOk r (λ query. IsRead seen catalog (Ok query))
+    → IfErr r (λ stop. IfRefused stop (λ refusal. IsFirstFault seen end refusal ⊎ IsRead seen catalog (Err refusal))) → GivesDue (IsSqlRead catalog text) r
+at_sql catalog text tokens (Ok query) a few seen same end is k f = let read = subst (λ l. IsRead l catalog (Ok query)) same k in (tokens, (a, few), (read.text, (read.spelled, read.shallow), read.due_is))
+at_sql catalog text tokens (Err (Refused refusal)) a few seen same end is k f = by (subst (λ l. IsFirstFault l end refusal ⊎ IsRead l catalog (Err refusal)) same f)
+  where
+    by : IsFirstFault tokens end refusal ⊎ IsRead tokens catalog (Err refusal) → GivesDue (IsSqlRead catalog text) (Err (Refused refusal))
+    by (inl first) = inr (tokens, (a, few), inl (subst (λ n. IsFirstFault tokens n refusal) is first))
+    by (inr read) = inr (tokens, (a, few), inr (read.text, (read.spelled, read.shallow), read.due_is))
+at_sql catalog text tokens (Err NoMemory) a few seen same end is k f = tt
+
+-- what the text of a file is due is what the file is due
+pub in_file : (catalog : Catalog) (name text : List ℕ) (files : Option (List (List ℕ × List ℕ))) (r : Result SqlQuery Halt)
+    → IfSome files (λ told. StepGives (Only (text_at Sql name told)) (Ok text))
+    → (seen : List ℕ) → seen ≡ text → StepGives (Halted (IsSqlRead catalog seen)) r → IfSome files (λ told. StepGives (IsSqlAt catalog name told) r)
+in_file catalog name text None r e seen same k = tt
+in_file catalog name text (Some told) r e seen same k = by r (subst (λ t. StepGives (Halted (IsSqlRead catalog t)) r) same k)
+  where
+    by : (r : Result SqlQuery Halt) → StepGives (Halted (IsSqlRead catalog text)) r → StepGives (IsSqlAt catalog name told) r
+    by (Ok query) k = (text, e, k)
+    by (Err (h.Refused refusal)) k = inr (text, e, k)
+    by (Err h.Usage) k = absurd k
+    by (Err h.ReadFault) k = tt
+    by (Err h.NoMemory) k = tt
+
+-- the query, and then its table
+pub with_query : (catalog : Catalog) (query : SqlQuery) (words : List TableWord) (places sql : List ℕ) (files : Option (List (List ℕ × List ℕ))) (r : Result (List ℕ) Halt)
+    → IfSome files (λ told. StepGives (IsSqlAt catalog sql told) (Ok query))
+    → IfSome files (λ told. WritesTable (names_of query) (rows_at catalog query words places told) r) → IfSome files (λ told. StepWrites (IsTableAt catalog words places sql told) r)
+with_query catalog query words places sql None r e k = tt
+with_query catalog query words places sql (Some told) r e k = by r k
+  where
+    by : (r : Result (List ℕ) Halt) → WritesTable (names_of query) (rows_at catalog query words places told) r → StepWrites (IsTableAt catalog words places sql told) r
+    by (Ok text) (rows, due, is) = (Outcome.Table (names_of query) rows, (query, e, (rows, due, refl)), is)
+    by (Err (h.Refused refusal)) due = inr (query, e, inl due)
+    by (Err h.Usage) k = absurd k
+    by (Err h.ReadFault) k = tt
+    by (Err h.NoMemory) k = tt
+
+-- a query that is refused
+pub without_query : (catalog : Catalog) (words : List TableWord) (places sql : List ℕ) (files : Option (List (List ℕ × List ℕ))) (e : Halt)
+    → IfSome files (λ told. StepGives (IsSqlAt catalog sql told) (Err e)) → (IsErrOf {A = SqlQuery} (Err e) h.Usage → ⊥) → IfSome files (λ told. StepWrites (IsTableAt catalog words places sql told) (Err e))
+without_query catalog words places sql None e k never = tt
+without_query catalog words places sql (Some told) (h.Refused refusal) k never = inl k
+without_query catalog words places sql (Some told) h.Usage k never = inl k
+without_query catalog words places sql (Some told) h.ReadFault k never = tt
+without_query catalog words places sql (Some told) h.NoMemory k never = tt
+
+-- the catalog and the places of the tables, and then the rest
+pub with_places : (catalog : Catalog) (words : List TableWord) (places schema sql : List ℕ) (files : Option (List (List ℕ × List ℕ))) (r : Result (List ℕ) Halt)
+    → IfSome files (λ told. StepGives (IsCatalogAt schema told) (Ok catalog)) → StepGives (Only (places_or (table_places catalog words))) (Ok places)
+    → IfSome files (λ told. StepWrites (IsTableAt catalog words places sql told) r) → IfSome files (λ told. StepWrites (IsTableOf schema sql words told) r)
+with_places catalog words places schema sql None r e p k = tt
+with_places catalog words places schema sql (Some told) r e p k = by r k
+  where
+    by : (r : Result (List ℕ) Halt) → StepWrites (IsTableAt catalog words places sql told) r → StepWrites (IsTableOf schema sql words told) r
+    by (Ok text) (outcome, due, is) = (outcome, (catalog, e, (places, p, due)), is)
+    by (Err (h.Refused refusal)) due = inr (catalog, e, inr (places, p, due))
+    by (Err h.Usage) due = inr (catalog, e, inr (places, p, due))
+    by (Err h.ReadFault) k = tt
+    by (Err h.NoMemory) k = tt
