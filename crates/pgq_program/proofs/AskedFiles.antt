@@ -1,14 +1,15 @@
 -- The files of a command are files that its words ask for.
 use Rattle.std.proofs.Common.{◌≡◌, refl, sym, ap, ◌∙◌, subst, ℕ, ◌≤◌, ◌⊎◌, inl, inr, Bool, true, false, cond, List, [], ◌∷◌, drop, slice_get, Option, None, Some, option_map, IfSome, IfOk, Result, Ok, Err, codes, bytes_eq, All, arith}
-use Rattle.std.specs.Cmp.Lexicographic.{nat_list_eq_equiv}
+use Rattle.std.specs.Cmp.Lexicographic.{bytes_decides}
 use Rattle.pgq_base.specs.Files.{sample_word, IsAsked}
+use Rattle.pgq_base.specs.declared.memory.NoMemory.{NoMemory}
 use Rattle.table_words.specs.declared.word.TableWord.{TableWord}
 use Rattle.table_words.specs.TableWords.{table_words}
 use Rattle.pgq_program.specs.declared.words.Command.{Command}
 use Rattle.pgq_program.specs.Commands.{Asked, view, command_of, of_two, no_more, Asks}
 
 same_bytes : (a b : List ℕ) → bytes_eq a b ≡ true → a ≡ b
-same_bytes a b h = nat_list_eq_equiv.equal a b h
+same_bytes a b h = (bytes_decides a b).0 h
 
 -- a command that is not `sample`
 NotSample : List ℕ → Type 0
@@ -19,11 +20,11 @@ first_is a b h = cc
 
 second : (command a : List ℕ) (more : List (List ℕ)) → NotSample command → IsAsked a (command ∷ a ∷ more)
 unfolding NotSample
-second command a more no = record { command = λ h. no (first_is command sample_word h); place = inl refl }
+second command a more never = record { command = λ h. never (first_is command sample_word h); place = inl refl }
 
 third : (command a b : List ℕ) (more : List (List ℕ)) → NotSample command → IsAsked b (command ∷ a ∷ b ∷ more)
 unfolding NotSample
-third command a b more no = record { command = λ h. no (first_is command sample_word h); place = inr (inl refl) }
+third command a b more never = record { command = λ h. never (first_is command sample_word h); place = inr (inl refl) }
 
 no_sample : (command word : List ℕ) → bytes_eq command word ≡ true → (word ≡ sample_word → ⊥) → NotSample command
 unfolding NotSample
@@ -61,10 +62,11 @@ by_more command a b (word ∷ more) = tt
 
 by_tables : (command a b : List ℕ) (more : List (List ℕ)) → FilesAsked → bytes_eq command (codes "eval") ≡ true → (tables : Option (List TableWord)) → table_words more ≡ tables
     → Held (command ∷ a ∷ b ∷ more) (option_map (λ tables. Asked.OfEval a b tables) tables)
+unfolding NotSample
 by_tables command a b more files h None is = tt
 by_tables command a b more files h (Some tables) is =
-    let no = no_sample command (codes "eval") h eval_differs in
-    (second command a (b ∷ more) no, third command a b more no, files (command ∷ a ∷ b ∷ more) tables (λ e. no (first_is command sample_word e)) is)
+    let never : NotSample command = no_sample command (codes "eval") h eval_differs in
+    (second command a (b ∷ more) never, third command a b more never, files (command ∷ a ∷ b ∷ more) tables (λ e. never (first_is command sample_word e)) is)
 
 by_eval : (command a b : List ℕ) (more : List (List ℕ)) → FilesAsked → (e : Bool) → bytes_eq command (codes "eval") ≡ e
     → Held (command ∷ a ∷ b ∷ more) (cond e (option_map (λ tables. Asked.OfEval a b tables) (table_words more)) (no_more (of_two command a b) more))

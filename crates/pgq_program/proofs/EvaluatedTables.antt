@@ -1,5 +1,5 @@
 -- What is answered of an SQL text and of the tables of a command is what the words are due.
-use Rattle.std.proofs.Common.{◌≡◌, refl, sym, ap, subst, ◌∙◌, ℕ, ◌≤◌, List, length, inl, inr, Option, None, Some, IfSome, IfOk, IfErr, IsErrOf, Result, Ok, Err}
+use Rattle.std.proofs.Common.{◌≡◌, refl, sym, ap, subst, ◌∙◌, ℕ, ◌≤◌, List, length, ◌⊎◌, inl, inr, Option, None, Some, IfSome, IfOk, IfErr, IsErrOf, Result, Ok, Err}
 use Rattle.pgq_base.specs.Answers.{Gives}
 use Rattle.pgq_base.specs.Instances.{TableRows, InstanceRows}
 use Rattle.pgq_base.specs.declared.refusal.Refusal.{Refusal}
@@ -15,14 +15,15 @@ use Rattle.sql_parser.specs.Outcomes.{IfRefused, IsFirstFault}
 use Rattle.sql_reader.specs.Reading.{IsRead}
 use Rattle.table_words.specs.declared.word.TableWord.{TableWord}
 use Rattle.table_files.specs.TablePlaces.{table_places}
+use Rattle.table_loads.specs.Loads.{instance_at}
 use Rattle.pgq_program.specs.declared.halt.Halt.{Halt}
 use Rattle.pgq_program.specs.declared.halt.Halt.TheVariants as h
 use Rattle.pgq_program.specs.Chains.{Only}
-use Rattle.pgq_program.specs.Halts.{places_or}
+use Rattle.pgq_program.specs.Halts.{halting, tables_halting, places_or}
 use Rattle.pgq_program.specs.Outcomes.{Outcome}
-use Rattle.pgq_program.specs.Rows.{IsSqlRead, WritesTable}
+use Rattle.pgq_program.specs.Rows.{IsSqlRead, WritesTable, rows_due}
 use Rattle.pgq_program.specs.Steps.{StepGives, StepWrites, Halted, IsCatalogAt, IsSqlAt, rows_at, IsTableAt, IsTableOf, text_at}
-use Rattle.pgq_program.specs.Texts.{GivesDue}
+use Rattle.pgq_program.specs.Texts.{GivesDue, next}
 
 -- what the SQL rules answer of the tokens
 pub at_sql : (catalog : Catalog) (text : List ℕ) (tokens : List Token) (r : Result SqlQuery (Stop Refusal)) → AreTokens text tokens → length tokens ≤ most_tokens
@@ -50,6 +51,26 @@ in_file catalog name text (Some told) r e seen same k = by r (subst (λ t. StepG
     by (Err h.ReadFault) k = tt
     by (Err h.NoMemory) k = tt
 
+-- the instance, and then the rows of the query over it
+module _ (catalog : Catalog) (query : SqlQuery) (words : List TableWord) (places : List ℕ) where
+  abbrev pub Reads : Result InstanceRows Halt → List (List ℕ × List ℕ) → Type 0
+  Reads r told = StepGives (Only (tables_halting (instance_at catalog told words places))) r
+
+  abbrev pub WritesAt : Result (List ℕ) Halt → List (List ℕ × List ℕ) → Type 0
+  WritesAt r told = WritesTable (names_of query) (rows_at catalog query words places told) r
+
+  pub with_instance : (files : Option (List (List ℕ × List ℕ))) (instance : InstanceRows) (r : Result (List ℕ) Halt) → IfSome files (Reads (Ok instance))
+      → WritesTable (names_of query) (halting (rows_due Sql catalog query instance)) r → IfSome files (WritesAt r)
+  with_instance None instance r e k = tt
+  with_instance (Some told) instance r e k = subst (λ due. WritesTable (names_of query) due r) (sym (ap (λ i. next i (λ instance. halting (rows_due Sql catalog query instance))) e)) k
+
+  pub without_instance : (files : Option (List (List ℕ × List ℕ))) (e : Halt) → IfSome files (Reads (Err e)) → ((let r : Result (List ℕ) Halt = Err e in IsErrOf r h.Usage) → ⊥) → IfSome files (WritesAt (Err e))
+  without_instance None e k never = tt
+  without_instance (Some told) (h.Refused refusal) k never = ap (λ i. next i (λ instance. halting (rows_due Sql catalog query instance))) k
+  without_instance (Some told) h.Usage k never = absurd (never refl)
+  without_instance (Some told) h.ReadFault k never = tt
+  without_instance (Some told) h.NoMemory k never = tt
+
 -- the query, and then its table
 pub with_query : (catalog : Catalog) (query : SqlQuery) (words : List TableWord) (places sql : List ℕ) (files : Option (List (List ℕ × List ℕ))) (r : Result (List ℕ) Halt)
     → IfSome files (λ told. StepGives (IsSqlAt catalog sql told) (Ok query))
@@ -66,7 +87,7 @@ with_query catalog query words places sql (Some told) r e k = by r k
 
 -- a query that is refused
 pub without_query : (catalog : Catalog) (words : List TableWord) (places sql : List ℕ) (files : Option (List (List ℕ × List ℕ))) (e : Halt)
-    → IfSome files (λ told. StepGives (IsSqlAt catalog sql told) (Err e)) → (IsErrOf {A = SqlQuery} (Err e) h.Usage → ⊥) → IfSome files (λ told. StepWrites (IsTableAt catalog words places sql told) (Err e))
+    → IfSome files (λ told. StepGives (IsSqlAt catalog sql told) (Err e)) → ((let r : Result SqlQuery Halt = Err e in IsErrOf r h.Usage) → ⊥) → IfSome files (λ told. StepWrites (IsTableAt catalog words places sql told) (Err e))
 without_query catalog words places sql None e k never = tt
 without_query catalog words places sql (Some told) (h.Refused refusal) k never = inl k
 without_query catalog words places sql (Some told) h.Usage k never = inl k
@@ -76,9 +97,9 @@ without_query catalog words places sql (Some told) h.NoMemory k never = tt
 -- the catalog and the places of the tables, and then the rest
 pub with_places : (catalog : Catalog) (words : List TableWord) (places schema sql : List ℕ) (files : Option (List (List ℕ × List ℕ))) (r : Result (List ℕ) Halt)
     → IfSome files (λ told. StepGives (IsCatalogAt schema told) (Ok catalog)) → StepGives (Only (places_or (table_places catalog words))) (Ok places)
-    → IfSome files (λ told. StepWrites (IsTableAt catalog words places sql told) r) → IfSome files (λ told. StepWrites (IsTableOf schema sql words told) r)
-with_places catalog words places schema sql None r e p k = tt
-with_places catalog words places schema sql (Some told) r e p k = by r k
+    → (seen : List ℕ) → seen ≡ places → IfSome files (λ told. StepWrites (IsTableAt catalog words seen sql told) r) → IfSome files (λ told. StepWrites (IsTableOf schema sql words told) r)
+with_places catalog words places schema sql None r e p seen same k = tt
+with_places catalog words places schema sql (Some told) r e p seen same k = by r (subst (λ l. StepWrites (IsTableAt catalog words l sql told) r) same k)
   where
     by : (r : Result (List ℕ) Halt) → StepWrites (IsTableAt catalog words places sql told) r → StepWrites (IsTableOf schema sql words told) r
     by (Ok text) (outcome, due, is) = (outcome, (catalog, e, (places, p, due)), is)

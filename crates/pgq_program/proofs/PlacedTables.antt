@@ -1,7 +1,8 @@
 -- A refusal of the tables of a command has no place in a text.
-use Rattle.std.proofs.Common.{◌≡◌, refl, sym, ap, subst, ◌∙◌, ℕ, ◌+◌, List, [], ◌∷◌, length, Bool, true, false, nat_le, cond, ◌⊎◌, inl, inr, Option, None, Some, Result, Ok, Err}
+use Rattle.std.proofs.Common.{suc, ◌≡◌, refl, sym, ap, subst, ◌∙◌, ℕ, ◌+◌, List, [], ◌∷◌, length, Bool, true, false, nat_le, cond, ◌⊎◌, inl, inr, Option, None, Some, Result, Ok, Err}
 use Rattle.pgq_base.specs.Files.{content_of}
 use Rattle.pgq_base.specs.Instances.{TableRows, InstanceRows}
+use Rattle.pgq_base.specs.declared.code.Code.TheVariants.{DataTooLarge}
 use Rattle.pgq_base.specs.declared.refusal.Refusal.{Refusal}
 use Rattle.pgq_base.specs.declared.refusal.Role.{Role}
 use Rattle.pgq_base.specs.declared.refusal.Role.TheVariants.{Sql, Table as OfTable}
@@ -32,10 +33,10 @@ abbrev pub IsTablePlaced : Refusal → Type 0
 IsTablePlaced r = (r.role ≡ OfTable) × (r.span.from ≡ 0) × (r.span.to ≡ 0)
 
 pub table_part : (schema query sql : Option (List ℕ)) (r : Refusal) → IsTablePlaced r → NamesPart (of_role schema query sql) r
-table_part schema query sql r placed = subst (λ role. IsPart (of_role schema query sql role) r.span) (sym placed.0) placed.1
+table_part schema query sql r placed = subst (λ role. IsPart (of_role schema query sql role) r.span) (sym placed.0) (placed.1, placed.2)
 
 of_fault : (name : List ℕ) (fault : TableFault) (r : Refusal) → refusal_of name fault ≡ r → IsTablePlaced r
-of_fault name fault r e = subst IsTablePlaced e (refl, (refl, refl))
+of_fault name fault r e = subst IsTablePlaced e (refl, refl, refl)
 
 -- ---- the rows of a file
 
@@ -50,12 +51,15 @@ of_added : (read : RowsRead) (place count : ℕ) (rows : Result TableRows Refusa
 of_added read place count (Ok rows) r e = absurd cc
 of_added read place count (Err refusal) r e = cc
 
+too_large_is : (catalog : Catalog) (place : ℕ) (r : Refusal) → (let x : Result RowsRead Refusal = Err (too_large (table_at catalog place).name) in x) ≡ Err r → too_large (table_at catalog place).name ≡ r
+too_large_is catalog place r e = cc
+
 of_file : (catalog : Catalog) (read : RowsRead) (place : ℕ) (bytes : List ℕ) (r : Refusal) → file_read catalog read place bytes ≡ Err r → IsTablePlaced r
 of_file catalog read place bytes r e = by (nat_le (read.bytes + length bytes) most_bytes) e
   where
     by : (b : Bool) → cond b (added read place (length bytes) (table_rows bytes (table_at catalog place))) (Err (too_large (table_at catalog place).name)) ≡ Err r → IsTablePlaced r
     by true e = of_rows bytes (table_at catalog place) r (of_added read place (length bytes) (table_rows bytes (table_at catalog place)) r e)
-    by false e = of_fault (table_at catalog place).name _ r cc
+    by false e = of_fault (table_at catalog place).name (record { code = DataTooLarge; row = 0; column = 0 }) r (too_large_is catalog place r e)
 
 -- ---- the files one after another
 
@@ -92,7 +96,7 @@ of_table_or table (Some fault) rest r e later = of_fault table.name fault r cc
 
 of_tables : (instance : InstanceRows) (n : ℕ) (tables : List Table) (r : Refusal) → tables_refusal instance n tables ≡ Some r → IsTablePlaced r
 of_tables instance n [] r e = absurd cc
-of_tables instance n (table ∷ tables) r e = of_table_or table _ _ r e (of_tables instance _ tables r)
+of_tables instance n (table ∷ tables) r e = of_table_or table _ _ r e (of_tables instance (suc n) tables r)
 
 of_unless : {A : Type 0} (o : Option Refusal) (x : A) (r : Refusal) → unless o x ≡ Err r → o ≡ Some r
 of_unless None x r e = absurd cc

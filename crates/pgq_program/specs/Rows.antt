@@ -29,10 +29,10 @@ too_many role = refusal role TooManyRows (record { from = 0; to = 0 })
 abbrev pub rows_due : Role → Catalog → SqlQuery → InstanceRows → Result TableRows Refusal
 rows_due role catalog query instance = cond (nat_le (length (bag catalog query instance)) 1000000) (Ok (bag catalog query instance)) (Err (too_many role))
 
--- the text is that of the rows that are due under the names, or this halt is due
+-- the text is that of the rows that are due under the names, or this refusal is due, or it is want of memory or a fault
 abbrev pub WritesTable : List (List ℕ) → Result TableRows Halt → Result (List ℕ) Halt → Type 0
 WritesTable names due (Ok text) = (rows : TableRows) × (due ≡ Ok rows) × (text ≡ table_text names rows)
 WritesTable names due (Err (h.Refused refusal)) = due ≡ Err (h.Refused refusal)
 WritesTable names due (Err h.Usage) = ⊥
-WritesTable names due (Err h.ReadFault) = ⊥
+WritesTable names due (Err h.ReadFault) = Unit {0}
 WritesTable names due (Err h.NoMemory) = Unit {0}

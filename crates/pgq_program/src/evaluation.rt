@@ -1,4 +1,4 @@
-ghost use Rattle.std.specs.Prelude.{◌≡◌, ◌≤◌, ◌<◌, IfOk, IfErr, IsErrOf, length, All};
+ghost use Rattle.std.specs.Prelude.{◌≡◌, ◌≤◌, ◌<◌, IfOk, IfErr, IsErrOf, length, map, All};
 ghost use Rattle.csv_tables.specs.Constraints.{instance_rows};
 ghost use Rattle.csv_tables.specs.Outcomes.{seen, rows_of};
 ghost use Rattle.graph_ast.specs.Catalogs.{IsValidCatalog};
@@ -21,7 +21,7 @@ use csv_tables::write_rows;
 use graph_ast::Catalog;
 use pgq_base::{Code, Detail, Instance, List, Name, NoMemory, Refusal, Role, Rows, Span, Stop};
 use row_eval::{EvalStop, Steps, evaluate};
-use sql_algebra::SqlQuery;
+use sql_algebra::{SelectColumn, SqlQuery};
 use sql_lexer::lex;
 use sql_reader::{lexed_are_sized, read_sql};
 use std::alloc::Global;
@@ -46,18 +46,24 @@ pub(crate) fn read_query_text(
     read_sql(alloc, tokens.as_slice(), text.len() as u32, catalog)
 }
 
+fn names_in(alloc: Global, columns: &[SelectColumn]) -> Result<List<Name>, NoMemory>
+    ensures { IfOk result (λ names. names ≡ map (λ column. column.name) columns.now) }
+{
+    let mut names = List::new(alloc);
+    for column in columns {
+        names.push(column.name.copy(alloc)?)?;
+    }
+    Ok(names)
+}
+
 // The names of a query's columns: those of its first select.
 fn column_names(alloc: Global, query: &SqlQuery) -> Result<List<Name>, NoMemory>
     ensures { IfOk result (λ names. names ≡ names_of query.now) }
 {
-    let mut names = List::new(alloc);
-    let [select, ..] = query.selects.as_slice() else {
-        return Ok(names);
-    };
-    for column in select.columns.as_slice() {
-        names.push(column.name.copy(alloc)?)?;
+    match query.selects.as_slice() {
+        [select, ..] => names_in(alloc, select.columns.as_slice()),
+        [] => Ok(List::new(alloc)),
     }
-    Ok(names)
 }
 
 // The rows of the query, whose reads are counted in a book of their own.
