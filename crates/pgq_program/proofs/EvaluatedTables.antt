@@ -64,7 +64,7 @@ module _ (catalog : Catalog) (query : SqlQuery) (words : List TableWord) (places
   with_instance None instance r e k = tt
   with_instance (Some told) instance r e k = subst (λ due. WritesTable (names_of query) due r) (sym (ap (λ i. next i (λ instance. halting (rows_due Sql catalog query instance))) e)) k
 
-  pub without_instance : (files : Option (List (List ℕ × List ℕ))) (e : Halt) → IfSome files (Reads (Err e)) → ((let r : Result (List ℕ) Halt = Err e in IsErrOf r h.Usage) → ⊥) → IfSome files (WritesAt (Err e))
+  pub without_instance : (files : Option (List (List ℕ × List ℕ))) (e : Halt) → IfSome files (Reads (Err e)) → (e ≡ h.Usage → ⊥) → IfSome files (WritesAt (Err e))
   without_instance None e k never = tt
   without_instance (Some told) (h.Refused refusal) k never = ap (λ i. next i (λ instance. halting (rows_due Sql catalog query instance))) k
   without_instance (Some told) h.Usage k never = absurd (never refl)

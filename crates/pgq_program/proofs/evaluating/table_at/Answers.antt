@@ -1,10 +1,11 @@
+use Rattle.std.proofs.Common.{ap, Err}
 use Rattle.csv_tables.specs.Constraints.{instance_rows}
 use Rattle.pgq_program.proofs.EvaluatedTables.{with_instance, without_instance}
 use Rattle.pgq_program.proofs.evaluating.table_at.Goals as goal
 
 pub returns-in_err-instance-clause-told : goal.returns-in_err-instance-clause-told
 returns-in_err-instance-clause-told g c =
-    without_instance c.args.catalog.now c.args.query.now c.args.words.now c.args.places.now _ c.in_err-instance.field-0.0 c.in_err-instance.ensures.told c.in_err-instance.ensures.never
+    without_instance c.args.catalog.now c.args.query.now c.args.words.now c.args.places.now _ c.in_err-instance.field-0.0 c.in_err-instance.ensures.told (λ h. c.in_err-instance.ensures.never (ap Err h))
 
 pub returns-clause-told : goal.returns-clause-told
 returns-clause-told g c =
