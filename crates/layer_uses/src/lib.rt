@@ -4,3 +4,6 @@
 mod schemas;
 
 pub use schemas::catalog_of_text;
+
+#[cfg(test)]
+mod tests;

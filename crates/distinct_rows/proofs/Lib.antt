@@ -1,0 +1,2 @@
+mod HeldRows
+mod DifferentRows

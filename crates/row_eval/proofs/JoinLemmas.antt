@@ -1,0 +1,116 @@
+-- A join with its tests.
+use Rattle.std.proofs.Common.{map, sum, ◌+◌}
+use Rattle.row_eval.specs.Access.{rows_given}
+use Rattle.row_eval.specs.Stages.{visits}
+use Rattle.std.proofs.Common.{◌≡◌, ℕ, suc, zero, ◌<◌, cond, ◌&&◌, Bool, true, false, List, [], ◌∷◌, ◌++◌, length, refl, sym, ap, subst, ◌∙◌, Some}
+use Rattle.std.specs.Prelude.{filter, flat_map, slice_get}
+use Rattle.pgq_base.specs.Instances.{RowValues, TableRows, InstanceRows, rows_at}
+use Rattle.row_eval.specs.declared.frame.Condition.{Condition}
+use Rattle.row_eval.specs.declared.access.Access.{Access}
+use Rattle.row_eval.specs.declared.index.Index.{Index}
+use Rattle.row_eval.specs.declared.stage.Stage.{Stage}
+use Rattle.row_eval.specs.declared.stage.Stage.TheVariants as v
+use Rattle.row_eval.specs.Slots.{Stack, is_kept}
+use Rattle.row_eval.specs.Access.{matches_row}
+use Rattle.row_eval.specs.Served.{AllServed, IsIndexOf}
+use Rattle.row_eval.specs.Stages.{all_kept, found, accesses}
+use Rattle.row_eval.specs.Ties.{are_tied, slots_of, tie_holds, ties_hold}
+use Rattle.row_eval.specs.Joins.{passed_on, tied_rows, visits_passed}
+use Rattle.row_eval.proofs.StageLemmas.{found-Keep, found-Join, visits-Keep, visits-Join, accesses-Keep, accesses-Join}
+
+no_more : (tied kept : Bool) → cond tied kept true ≡ false → kept ≡ false
+no_more true kept h = h
+no_more false kept h = absurd cc
+
+both_false : (a b x y : Bool) → (a ≡ false → x ≡ false) → (b ≡ false → y ≡ false) → (a && b) ≡ false → (x && y) ≡ false
+both_false false b x y f g h = ap (λ z. z && y) (f refl)
+both_false true false true y f g h = g refl
+both_false true false false y f g h = refl
+both_false true true x y f g h = absurd cc
+
+weaker : (place : ℕ) (s : Stack) (row : RowValues) (tests : List Condition) → ties_hold place s row tests ≡ false → all_kept tests (s ++ row ∷ []) ≡ false
+weaker place s row [] h = absurd cc
+weaker place s row (t ∷ ts) h =
+    both_false (tie_holds place s row t.expr) (ties_hold place s row ts) (is_kept (s ++ row ∷ []) t.expr) (all_kept ts (s ++ row ∷ []))
+    (no_more (are_tied place (slots_of t.expr)) (is_kept (s ++ row ∷ []) t.expr)) (weaker place s row ts) h
+
+flat_same : {X Y : Type 0} (p : X → Bool) (f g : X → List Y) → ((x : X) → p x ≡ false → g x ≡ []) → ((x : X) → f x ≡ g x) → (xs : List X) → flat_map f (filter p xs) ≡ flat_map g xs
+flat_same p f g none same [] = refl
+flat_same {X} p f g none same (x ∷ xs) = go (p x) refl (flat_same p f g none same xs)
+  where
+    go : (b : Bool) → p x ≡ b → flat_map f (filter p xs) ≡ flat_map g xs → flat_map f (cond b (x ∷ filter p xs) (filter p xs)) ≡ g x ++ flat_map g xs
+    go true e h = ap (λ l. l ++ flat_map f (filter p xs)) (same x) ∙ ap (λ l. g x ++ l) h
+    go false e h = h ∙ ap (λ l. l ++ flat_map g xs) (sym (none x e))
+
+pub joined_found : (instance : InstanceRows) (e kept rest : Stage) (access : Access) (tests : List Condition) (table place : ℕ) (s : Stack)
+    → e ≡ v.Join access kept → kept ≡ v.Keep tests rest → access.table ≡ table
+    → ((row : RowValues) → matches_row access s row ≡ ties_hold place s row tests)
+    → found instance e s ≡ passed_on (found instance rest) tests s (rows_at instance table)
+joined_found instance e kept rest access tests table place s is then at matches =
+    found-Join instance s e access kept is
+    ∙ flat_same (matches_row access s) (λ row. found instance kept (s ++ row ∷ [])) (λ row. cond (all_kept tests (s ++ row ∷ [])) (found instance rest (s ++ row ∷ [])) [])
+    (λ row no. ap (λ b. cond b (found instance rest (s ++ row ∷ [])) []) (weaker place s row tests (sym (matches row) ∙ no)))
+    (λ row. found-Keep instance (s ++ row ∷ []) kept tests rest then)
+    (rows_at instance access.table)
+    ∙ ap (λ t. passed_on (found instance rest) tests s (rows_at instance t)) at
+
+get_before : {X : Type 0} (xs : List X) (x y : X) (i : ℕ) → slice_get xs i ≡ Some y → slice_get (xs ++ x ∷ []) i ≡ Some y
+get_before [] x y zero h = absurd cc
+get_before [] x y (suc i) h = absurd cc
+get_before (z ∷ zs) x y zero h = h
+get_before (z ∷ zs) x y (suc i) h = get_before zs x y i h
+
+get_last : {X : Type 0} (xs : List X) (x : X) → slice_get (xs ++ x ∷ []) (length xs) ≡ Some x
+get_last [] x = refl
+get_last (z ∷ zs) x = get_last zs x
+
+pub still_served : (instance : InstanceRows) (indexes : List Index) (new : Index) (all : List Access) → AllServed instance indexes all
+    → AllServed instance (indexes ++ new ∷ []) all
+still_served instance indexes new [] h = tt
+still_served instance indexes new (a ∷ others) h =
+    (record { table = h.0.table; index = h.0.index; at = get_before indexes new h.0.index a.index h.0.at; right = h.0.right }, still_served instance indexes new others h.1)
+
+pub joined_served : (instance : InstanceRows) (e kept rest : Stage) (access : Access) (tests : List Condition) (table : ℕ) (indexes more : List Index) (new : Index)
+    → e ≡ v.Join access kept → kept ≡ v.Keep tests rest → access.table ≡ table → access.index ≡ length indexes → table < length instance
+    → more ≡ indexes ++ new ∷ [] → IsIndexOf access.tied (rows_at instance table) new
+    → AllServed instance indexes (accesses rest) → AllServed instance more (accesses e)
+joined_served instance e kept rest access tests table indexes more new is then at number within grown right others =
+    subst (λ l. AllServed instance l (accesses e)) (sym grown)
+    (subst (AllServed instance (indexes ++ new ∷ [])) (sym (accesses-Join e access kept is ∙ ap (λ l. access ∷ l) (accesses-Keep kept tests rest then))) (
+      record {
+        table = subst (λ t. t < length instance) (sym at) within;
+        index = new;
+        at = ap (slice_get (indexes ++ new ∷ [])) number ∙ get_last indexes new;
+        right = subst (λ t. IsIndexOf access.tied (rows_at instance t) new) (sym at) right;
+      },
+      still_served instance indexes new (accesses rest) others,
+    ))
+
+-- ---- the reads of a join
+
+filter_alike : {X : Type 0} (p q : X → Bool) → ((x : X) → p x ≡ q x) → (xs : List X) → filter p xs ≡ filter q xs
+filter_alike p q same [] = refl
+filter_alike p q same (x ∷ xs) = ap (λ b. cond b (x ∷ filter p xs) (filter p xs)) (same x) ∙ ap (λ l. cond (q x) (x ∷ l) l) (filter_alike p q same xs)
+
+map_alike : {X Y : Type 0} (f g : X → Y) → ((x : X) → f x ≡ g x) → (xs : List X) → map f xs ≡ map g xs
+map_alike f g same [] = refl
+map_alike f g same (x ∷ xs) = ap (λ y. y ∷ map f xs) (same x) ∙ ap (λ l. g x ∷ l) (map_alike f g same xs)
+
+pub joined_visits : (instance : InstanceRows) (e kept rest : Stage) (access : Access) (tests : List Condition) (table place : ℕ) (s : Stack)
+    → e ≡ v.Join access kept → kept ≡ v.Keep tests rest → access.table ≡ table → length s ≡ place
+    → ((row : RowValues) → matches_row access s row ≡ ties_hold place s row tests)
+    → visits instance e s ≡ visits_passed (visits instance rest) tests s (tied_rows tests s (rows_at instance table))
+joined_visits instance e kept rest access tests table place s is then at long matches =
+    visits-Join instance s e access kept is
+    ∙ ap sum (map_alike (λ row. 1 + visits instance kept (s ++ row ∷ [])) (λ row. 1 + cond (all_kept tests (s ++ row ∷ [])) (visits instance rest (s ++ row ∷ [])) 0)
+    (λ row. ap (λ n. 1 + n) (visits-Keep instance (s ++ row ∷ []) kept tests rest then)) (rows_given instance access s))
+    ∙ ap (λ rows. visits_passed (visits instance rest) tests s rows)
+    (filter_alike (matches_row access s) (λ row. ties_hold (length s) s row tests) (λ row. matches row ∙ ap (λ n. ties_hold n s row tests) (sym long))
+    (rows_at instance access.table)
+    ∙ ap (λ t. tied_rows tests s (rows_at instance t)) at)
+
+pub visits_alike : (f g : Stack → ℕ) (tests : List Condition) (s : Stack) → ((row : RowValues) → f (s ++ row ∷ []) ≡ g (s ++ row ∷ [])) → (rows : TableRows)
+    → visits_passed f tests s rows ≡ visits_passed g tests s rows
+visits_alike f g tests s same rows =
+    ap sum (map_alike (λ row. 1 + cond (all_kept tests (s ++ row ∷ [])) (f (s ++ row ∷ [])) 0) (λ row. 1 + cond (all_kept tests (s ++ row ∷ [])) (g (s ++ row ∷ [])) 0)
+    (λ row. ap (λ n. 1 + cond (all_kept tests (s ++ row ∷ [])) n 0) (same row)) rows)

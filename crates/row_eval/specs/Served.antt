@@ -1,0 +1,75 @@
+-- Indexes: the places of a table's rows, by a code of the columns that are tied.
+use Rattle.std.specs.Prelude.{◌≡◌, ℕ, suc, ◌==◌, ◌<◌, Bool, true, false, cond, List, [], ◌∷◌, ◌++◌, map, length, Option, Some, None, slice_get, nat_eq}
+use Rattle.std.specs.Option.{option_map_or}
+use Rattle.std.specs.HashMap.{HashMap, get}
+use Rattle.std.specs.declared.vec.Vec.{Vec}
+use Rattle.std.specs.declared.alloc.Global.{Global}
+use Rattle.std.specs.List.{fold, AllByRecursion}
+use Rattle.std.specs.Hash as fed
+use Rattle.std.specs.Hash.FoldHasher as folding
+use Rattle.std.specs.declared.hash.FoldHasher.{FoldHasher}
+use Rattle.pgq_base.specs.declared.value.Value.{Value}
+use Rattle.pgq_base.specs.declared.value.Value.TheVariants as value
+use Rattle.pgq_base.specs.Instances.{RowValues, TableRows, InstanceRows, rows_at}
+use Rattle.row_eval.specs.declared.access.Tied.{Tied}
+use Rattle.row_eval.specs.declared.access.Access.{Access}
+use Rattle.row_eval.specs.Access.{column_value}
+use Rattle.row_eval.specs.declared.index.Index.{Index}
+use Rattle.row_eval.specs.Slots.{Stack, slot_value, lent_rows}
+
+-- what a value feeds a hasher
+abbrev pub writes : Value → List (List ℕ)
+writes value.Null = []
+writes (value.Truth b) = fed.bool b
+writes (value.Number n) = fed.i64 n
+writes (value.Decimal d) = fed.i64 d.unscaled ++ fed.u8 d.scale
+writes (value.Date d) = fed.i32 d.day
+writes (value.Text t) = t ∷ []
+
+abbrev pub is_null : Value → Bool
+is_null value.Null = true
+is_null v = false
+
+-- the code of a hasher that is fed the values; none where one is Null
+abbrev pub code_from : FoldHasher → List Value → Option ℕ
+code_from hasher [] = Some (folding.finish hasher)
+code_from hasher (v ∷ vs) = cond (is_null v) None (code_from (fold folding.write hasher (writes v)) vs)
+
+-- a number that equal lists of values share
+abbrev pub code_of : List Value → Option ℕ
+code_of values = code_from folding.initial values
+
+abbrev pub row_code : List Tied → RowValues → Option ℕ
+row_code tied row = code_of (map (λ (t : Tied). column_value row t.own) tied)
+
+abbrev pub stack_code : List Tied → Stack → Option ℕ
+stack_code tied stack = code_of (map (λ (t : Tied). slot_value stack t.other) tied)
+
+abbrev pub is_code : ℕ → Option ℕ → Bool
+is_code code None = false
+is_code code (Some other) = other == code
+
+-- the places under a code
+abbrev pub group_in : {S : Type 0} → HashMap ℕ (Vec ℕ Global) S → ℕ → List ℕ
+group_in groups code = option_map_or (λ group. group.items) (get nat_eq groups code) []
+
+-- the places of the rows that pass the test, the first row at a given place
+abbrev pub places_from : (RowValues → Bool) → ℕ → TableRows → List ℕ
+places_from test at [] = []
+places_from test at (row ∷ rows) = cond (test row) (at ∷ places_from test (suc at) rows) (places_from test (suc at) rows)
+
+-- the index has the table's rows, and under each code the places of those that have it, in order
+pub record IsIndexOf (tied : List Tied) (rows : TableRows) (index : Index) : Type 0 where
+  pub lent : lent_rows index.rows.items ≡ rows
+  pub groups : (q : ℕ) → group_in index.groups q ≡ places_from (λ row. is_code q (row_code tied row)) 0 rows
+
+-- the access's index is that of its table, which is there
+pub record IsServed (tables : InstanceRows) (indexes : List Index) (access : Access) : Type 0 where
+  pub table : access.table < length tables
+  pub index : Index
+  pub at : slice_get indexes access.index ≡ Some index
+  pub right : IsIndexOf access.tied (rows_at tables access.table) index
+
+-- each access of a stage is served
+abbrev pub AllServed : InstanceRows → List Index → List Access → Type 0
+AllServed tables indexes all = AllByRecursion (IsServed tables indexes) all

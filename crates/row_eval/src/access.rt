@@ -1,0 +1,99 @@
+ghost use Rattle.std.specs.Prelude.{◌≡◌, map};
+ghost use Rattle.std.specs.List.{list_all};
+ghost use Rattle.pgq_base.specs.Values.{owned};
+ghost use Rattle.row_eval.specs.Slots.{lent_rows, slot_value};
+ghost use Rattle.row_eval.specs.Access.{column_value, agree, matches_row};
+
+use crate::frame::{Slot, fitting, slot_in, value_in_row};
+use pgq_base::{Class, List, Row, ValueRef, compare_sizes};
+use std::cmp::Ordering;
+
+/// A column of the row that is read.
+#[derive(Clone, Copy, Debug, PartialEq, Eq)]
+pub struct Own {
+    pub column: usize,
+    pub class: Class,
+}
+
+/// A column of the row that equals one of the rows before it.
+#[derive(Clone, Copy, Debug, PartialEq, Eq)]
+pub struct Tied {
+    pub own: Own,
+    pub other: Slot,
+}
+
+/// Two columns of the row that are equal.
+#[derive(Clone, Copy, Debug, PartialEq, Eq)]
+pub struct Pair {
+    pub left: Own,
+    pub right: Own,
+}
+
+/// Which rows of a table are read: those that agree with the rows before them. The index is found by number.
+#[derive(Debug, Drop)]
+pub struct Access {
+    pub table: u32,
+    pub index: usize,
+    pub tied: List<Tied>,
+    pub pairs: List<Pair>,
+}
+
+/// The value of a column of the row.
+pub fn value_of_own(row: &Row, own: Own) -> ValueRef<'_>
+    ensures { owned result ≡ column_value row.now.values own }
+{
+    fitting(own.class, value_in_row(row, own.column))
+}
+
+// Whether two values are known and equal.
+fn agreeing(a: ValueRef<'_>, b: ValueRef<'_>) -> bool
+    ensures { result ≡ agree (owned a.entry) (owned b.entry) }
+{
+    match (a, b) {
+        (ValueRef::Truth(a), ValueRef::Truth(b)) => a.cmp(&b) == Ordering::Equal,
+        (ValueRef::Number(a), ValueRef::Number(b)) => a.cmp(&b) == Ordering::Equal,
+        (ValueRef::Number(a), ValueRef::Decimal(b)) => {
+            compare_sizes(a, 0, b.unscaled, b.scale) == Ordering::Equal
+        }
+        (ValueRef::Decimal(a), ValueRef::Number(b)) => {
+            compare_sizes(a.unscaled, a.scale, b, 0) == Ordering::Equal
+        }
+        (ValueRef::Decimal(a), ValueRef::Decimal(b)) => {
+            compare_sizes(a.unscaled, a.scale, b.unscaled, b.scale) == Ordering::Equal
+        }
+        (ValueRef::Date(a), ValueRef::Date(b)) => a.day.cmp(&b.day) == Ordering::Equal,
+        (ValueRef::Text(a), ValueRef::Text(b)) => {
+            a.as_bytes().cmp(b.as_bytes()) == Ordering::Equal
+        }
+        _ => false,
+    }
+}
+
+/// Whether the row agrees with the rows before it.
+pub fn matches(access: &Access, row: &Row, stack: &[&Row]) -> bool
+    ensures { result ≡ matches_row access.now (lent_rows stack.now) row.now.values }
+{
+    ties_match(access.tied.as_slice(), row, stack) && pairs_match(access.pairs.as_slice(), row)
+}
+
+fn ties_match(tied: &[Tied], row: &Row, stack: &[&Row]) -> bool
+    ensures { result ≡ list_all (λ t. agree (column_value row.now.values t.own) (slot_value (lent_rows stack.now) t.other)) tied.now }
+{
+    for tie in tied {
+        if !agreeing(value_of_own(row, tie.own), slot_in(stack, tie.other)) {
+            return false;
+        }
+    }
+    true
+}
+
+fn pairs_match(pairs: &[Pair], row: &Row) -> bool
+    ensures { result ≡ list_all (λ p. agree (column_value row.now.values p.left) (column_value row.now.values p.right)) pairs.now }
+{
+    for pair in pairs {
+        if !agreeing(value_of_own(row, pair.left), value_of_own(row, pair.right)) {
+            return false;
+        }
+    }
+    true
+}

@@ -1,0 +1,94 @@
+ghost use Rattle.std.specs.Prelude.{◌≡◌, ◌+◌, ◌<◌, ◌≤◌, ◌++◌, ◌∷◌, [], IfOk, length, List as Seq};
+ghost use Rattle.row_eval.specs.declared.access.Access.{Access as Reading};
+ghost use Rattle.row_eval.specs.declared.index.Index.{Index as Built};
+ghost use Rattle.pgq_base.specs.Instances.{rows_at};
+ghost use Rattle.row_eval.specs.Slots.{Stack};
+ghost use Rattle.row_eval.specs.Served.{AllServed};
+ghost use Rattle.row_eval.specs.Stages.{found, visits, accesses};
+ghost use Rattle.row_eval.specs.declared.stage.Stage.TheVariants.{Keep, Join};
+ghost use Rattle.row_eval.specs.Joins.{passed_on, tied_rows, visits_passed};
+
+use crate::access::Access;
+use crate::frame::Condition;
+use crate::index::{Index, build_index};
+use crate::source::RowSource;
+use crate::stage::Stage;
+use crate::steps::Steps;
+use crate::ties::access_of;
+use pgq_base::{List, NoMemory};
+use sqlite_items::Boxed;
+use std::alloc::Global;
+use std::sync::ledger::Ledger;
+
+/// The conditions before a stage.
+pub fn kept_by(alloc: Global, tests: List<Condition>, rest: Stage) -> Result<Stage, NoMemory>
+    ensures { IfOk result (λ e. e ≡ Keep tests rest) }
+{
+    Ok(Stage::Keep(tests, Boxed::new(alloc, rest)?))
+}
+
+fn joined(alloc: Global, access: Access, rest: Stage) -> Result<Stage, NoMemory>
+    ensures { IfOk result (λ e. e ≡ Join access rest) }
+{
+    Ok(Stage::Join(access, Boxed::new(alloc, rest)?))
+}
+
+/// Joins the rows of a table at a place, followed by tests, to what follows. Behind the stage stands the index of its
+/// access, which has this number.
+pub fn join_table<'r, R: RowSource, L: Ledger>(
+    alloc: Global,
+    rows: &'r R,
+    table: u32,
+    number: usize,
+    place: usize,
+    tests: List<Condition>,
+    rest: Stage,
+    steps: &mut Steps<L>,
+) -> Result<(Stage, Index<'r>), NoMemory>
+    requires { table < length (R.tables rows.now) }
+    ensures found { IfOk result (λ r. (s : Stack) → length s ≡ place → found (R.tables rows.now) r.0 s ≡ passed_on (found (R.tables rows.now) rest) tests s (rows_at (R.tables rows.now) table)) }
+    ensures visits { IfOk result (λ r. (s : Stack) → length s ≡ place → visits (R.tables rows.now) r.0 s ≡ visits_passed (visits (R.tables rows.now) rest) tests s (tied_rows tests s (rows_at (R.tables rows.now) table))) }
+    ensures served { IfOk result (λ r. (indexes : Seq Built) → number ≡ length indexes → AllServed (R.tables rows.now) indexes (accesses rest) → AllServed (R.tables rows.now) (indexes ++ r.1 ∷ []) (accesses r.0)) }
+    ensures steps { steps.new ≤ steps.old + length (rows_at (R.tables rows.now) table) }
+{
+    let access = access_of(alloc, table, number, place, tests.as_slice())?;
+    let index = build_index(alloc, table, access.tied.as_slice(), rows, steps)?;
+    let kept = kept_by(alloc, tests, rest)?;
+    let stage = joined(alloc, access, kept)?;
+    Ok((stage, index))
+}
+
+/// A stage and the indexes that its accesses name by number.
+#[derive(Drop)]
+pub struct Planned<'r> {
+    pub stage: Stage,
+    pub indexes: Vec<Index<'r>>,
+}
+
+/// Joins a table at a place, followed by tests, to what is planned.
+pub fn join_one<'r, R: RowSource, L: Ledger>(
+    alloc: Global,
+    rows: &'r R,
+    planned: Planned<'r>,
+    table: u32,
+    place: usize,
+    tests: List<Condition>,
+    steps: &mut Steps<L>,
+) -> Result<Planned<'r>, NoMemory>
+    requires { table < length (R.tables rows.now) }
+    ensures found { IfOk result (λ p. (s : Stack) → length s ≡ place → found (R.tables rows.now) p.stage s ≡ passed_on (found (R.tables rows.now) planned.entry.stage) tests s (rows_at (R.tables rows.now) table)) }
+    ensures visits { IfOk result (λ p. (s : Stack) → length s ≡ place → visits (R.tables rows.now) p.stage s ≡ visits_passed (visits (R.tables rows.now) planned.entry.stage) tests s (tied_rows tests s (rows_at (R.tables rows.now) table))) }
+    ensures served { IfOk result (λ p. AllServed (R.tables rows.now) planned.entry.indexes.items (accesses planned.entry.stage) → AllServed (R.tables rows.now) p.indexes.items (accesses p.stage)) }
+    ensures kept { IfOk result (λ p. (all : Seq Reading) → AllServed (R.tables rows.now) planned.entry.indexes.items all → AllServed (R.tables rows.now) p.indexes.items all) }
+    ensures steps { steps.new ≤ steps.old + length (rows_at (R.tables rows.now) table) }
+{
+    let Planned { stage, indexes } = planned;
+    let mut indexes = indexes;
+    let number = indexes.len();
+    let joined = join_table(alloc, rows, table, number, place, tests, stage, steps)?;
+    indexes.push(joined.1)?;
+    Ok(Planned {
+        stage: joined.0,
+        indexes,
+    })
+}

@@ -1,0 +1,2 @@
+mod SampleFits
+mod RowsMade

@@ -1,0 +1,2 @@
+pub mod SampleCatalog
+pub mod SampleRun

@@ -1,0 +1,5 @@
+mod Identifiers
+mod Forms
+mod Names
+mod Asking
+pub mod Lists
