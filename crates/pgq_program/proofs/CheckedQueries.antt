@@ -1,5 +1,5 @@
 -- What is answered of the tree that the tokens of a query text spell is what the text is due.
-use Rattle.std.proofs.Common.{◌≡◌, refl, subst, ◌≤◌, ℕ, List, length, inl, inr, Bool, true, false, cond, Option, None, Some, IfSome, Result, Ok, Err}
+use Rattle.std.proofs.Common.{◌≡◌, refl, subst, ◌≤◌, ◌++◌, ℕ, List, length, codes, decimal, inl, inr, Bool, true, false, cond, Option, None, Some, IfSome, Result, Ok, Err}
 use Rattle.pgq_base.specs.Answers.{Gives}
 use Rattle.pgq_base.specs.declared.refusal.Refusal.{Refusal}
 use Rattle.pgq_base.specs.declared.refusal.Stop.{Stop}
@@ -16,9 +16,10 @@ use Rattle.pattern_check.specs.Checks.{due}
 use Rattle.pgq_program.specs.declared.halt.Halt.{Halt}
 use Rattle.pgq_program.specs.declared.halt.Halt.TheVariants as h
 use Rattle.pgq_program.specs.Chains.{Only}
+use Rattle.pgq_program.specs.Commands.{Asked}
 use Rattle.pgq_program.specs.Outcomes.{Outcome}
 use Rattle.pgq_program.specs.Queries.{not_served, served, IsJudged, IsQueryRead}
-use Rattle.pgq_program.specs.Steps.{StepGives, Halted, IsCatalogAt, IsQueryAt, IsCheckedAt, text_at}
+use Rattle.pgq_program.specs.Steps.{StepGives, StepWrites, Owes, Halted, IsCatalogAt, IsQueryAt, IsCheckedAt, text_at}
 use Rattle.pgq_program.specs.Texts.{GivesDue}
 
 module _ (catalog : Catalog) (tree : QueryTree) where
@@ -69,3 +70,10 @@ in_files schema query catalog (Some told) r e never k = by r never k
     by (Err h.Usage) never k = absurd (never refl)
     by (Err h.ReadFault) never k = tt
     by (Err h.NoMemory) never k = tt
+
+-- the line with the weight of the query
+pub line_told : (schema query : List ℕ) (files : Option (List (List ℕ × List ℕ))) (checked : CheckedQuery) (text : List ℕ)
+    → IfSome files (λ told. StepGives (IsCheckedAt schema query told) (Ok checked)) → text ≡ codes "ok, weight " ++ decimal checked.weight ++ codes "\n"
+    → IfSome files (λ told. StepWrites (Owes (Some (Asked.OfCheckQuery schema query)) told) (Ok text))
+line_told schema query None checked text e is = tt
+line_told schema query (Some told) checked text e is = (Outcome.Weighed checked.weight, (checked, e, refl), is)
