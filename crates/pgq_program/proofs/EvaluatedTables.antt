@@ -1,5 +1,5 @@
 -- What is answered of an SQL text and of the tables of a command is what the words are due.
-use Rattle.std.proofs.Common.{◌≡◌, refl, sym, ap, subst, ◌∙◌, ℕ, ◌≤◌, List, length, ◌⊎◌, inl, inr, Option, None, Some, IfSome, IfOk, IfErr, IsErrOf, Result, Ok, Err}
+use Rattle.std.proofs.Common.{◌≡◌, refl, sym, ap, subst, ◌∙◌, ℕ, ◌≤◌, List, length, ◌⊎◌, inl, inr, Option, None, Some, IfSome, IfOk, IfErr, IsErrAnd, IsErrOf, Result, Ok, Err}
 use Rattle.pgq_base.specs.Answers.{Gives}
 use Rattle.pgq_base.specs.Instances.{TableRows, InstanceRows}
 use Rattle.pgq_base.specs.declared.refusal.Refusal.{Refusal}
@@ -64,12 +64,16 @@ module _ (catalog : Catalog) (query : SqlQuery) (words : List TableWord) (places
   with_instance None instance r e k = tt
   with_instance (Some told) instance r e k = subst (λ due. WritesTable (names_of query) due r) (sym (ap (λ i. next i (λ instance. halting (rows_due Sql catalog query instance))) e)) k
 
-  pub without_instance : (files : Option (List (List ℕ × List ℕ))) (e : Halt) → IfSome files (Reads (Err e)) → (e ≡ h.Usage → ⊥) → IfSome files (WritesAt (Err e))
-  without_instance None e k never = tt
-  without_instance (Some told) (h.Refused refusal) k never = ap (λ i. next i (λ instance. halting (rows_due Sql catalog query instance))) k
-  without_instance (Some told) h.Usage k never = absurd (never refl)
-  without_instance (Some told) h.ReadFault k never = tt
-  without_instance (Some told) h.NoMemory k never = tt
+  refused_instance : (told : List (List ℕ × List ℕ)) (e : Halt) → Reads (Err e) told → (e ≡ h.Usage → ⊥) → WritesAt (Err e) told
+  refused_instance told (h.Refused refusal) k never = ap (λ i. next i (λ instance. halting (rows_due Sql catalog query instance))) k
+  refused_instance told h.Usage k never = absurd (never refl)
+  refused_instance told h.ReadFault k never = tt
+  refused_instance told h.NoMemory k never = tt
+
+  pub without_instance : (files : Option (List (List ℕ × List ℕ))) (e : Halt) (r : Result (List ℕ) Halt) → IsErrAnd r (λ x. x ≡ e) → IfSome files (Reads (Err e)) → (e ≡ h.Usage → ⊥) → IfSome files (WritesAt r)
+  without_instance None e r is k never = tt
+  without_instance (Some told) e (Ok text) is k never = absurd is
+  without_instance (Some told) e (Err x) is k never = let P : Halt → Type 0 = λ x. WritesAt (Err x) told in subst P (sym is) (refused_instance told e k never)
 
 -- the query, and then its table
 pub with_query : (catalog : Catalog) (query : SqlQuery) (words : List TableWord) (places sql : List ℕ) (files : Option (List (List ℕ × List ℕ))) (r : Result (List ℕ) Halt)

@@ -5,7 +5,7 @@ use Rattle.pgq_program.proofs.evaluating.table_at.Goals as goal
 
 pub returns-in_err-instance-clause-told : goal.returns-in_err-instance-clause-told
 returns-in_err-instance-clause-told g c =
-    without_instance c.args.catalog.now c.args.query.now c.args.words.now c.args.places.now _ c.in_err-instance.field-0.0 c.in_err-instance.ensures.told (λ h. c.in_err-instance.ensures.never (ap Err h))
+    without_instance c.args.catalog.now c.args.query.now c.args.words.now c.args.places.now _ c.in_err-instance.field-0.0 c.from_residual.result c.from_residual.ensures.1 c.in_err-instance.ensures.told (λ h. c.in_err-instance.ensures.never (ap Err h))
 
 pub returns-clause-told : goal.returns-clause-told
 returns-clause-told g c =
