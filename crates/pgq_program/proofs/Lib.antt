@@ -5,6 +5,7 @@ pub mod EvaluatedRows
 pub mod EvaluatedTables
 pub mod Given
 pub mod OneDue
+pub mod ToldRuns
 pub mod Placed
 pub mod PlacedFiles
 pub mod PlacedQueries
