@@ -9,7 +9,8 @@ use std::alloc::Global;
 use std::process::Abort;
 use std::test::Fail;
 
-pub(crate) const SCHEMA: &str = "CREATE TABLE person (id INTEGER PRIMARY KEY, name VARCHAR(20), age INTEGER);
+pub(crate) const SCHEMA: &str =
+    "CREATE TABLE person (id INTEGER PRIMARY KEY, name VARCHAR(20), age INTEGER);
 CREATE TABLE knows (id INTEGER PRIMARY KEY, a INTEGER REFERENCES person (id),
   b INTEGER REFERENCES person (id), since INTEGER);
 CREATE PROPERTY GRAPH g VERTEX TABLES (person)
