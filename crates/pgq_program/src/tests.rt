@@ -519,7 +519,7 @@ fn asks_for_its_words(rt: HostRuntime) -> Result<(), Fail> {
         &["translate", "schema", "query", "query"],
         &["TRANSLATE", "schema", "query"],
         &["check"],
-        &["check", "schema", "query"],
+        &["check", "schema", "query", "query"],
         &["sample", "5"],
     ];
     for words in forms {
