@@ -452,7 +452,7 @@ static INTERIM: [(&str, &str); 6] = [
     ),
     (
         "SELECT * FROM GRAPH_TABLE (G MATCH SHORTEST GROUP (x)->{1,2}(y) COLUMNS (x.name AS x))",
-        "query:0-0: 201 unexpected\n",
+        "query:44-49: 201 unexpected\n",
     ),
     (
         "SELECT * FROM GRAPH_TABLE (G MATCH (x)->(y) WHERE SAME(x, y) COLUMNS (x.name AS x))",
