@@ -34,7 +34,6 @@ pub lexed : (role : Role) (text : List ℕ) (r : Refusal) → IsLexed role text 
 lexed role text r fault = (ap (λ (r : Refusal). r.role) fault.0, first_within text r.code r.span fault.1)
 
 module _ (text : List ℕ) where
-
   parsed : (tokens : List Token) (r : Refusal) → AreTokens text tokens → IsOutcome tokens (length text) (Err r) → IsPlaced Schema (length text) r
   parsed tokens r are first = (first.role, subst (LiesIn (length text)) (sym first.span) (span_in_text (length text) first.place tokens (tokens_in text tokens are)))
 

@@ -9,7 +9,8 @@ use std::alloc::Global;
 use std::process::Abort;
 use std::test::Fail;
 
-pub(crate) const SCHEMA: &str = "CREATE TABLE person (id INTEGER PRIMARY KEY, name VARCHAR(20), age INTEGER);
+pub(crate) const SCHEMA: &str =
+    "CREATE TABLE person (id INTEGER PRIMARY KEY, name VARCHAR(20), age INTEGER);
 CREATE TABLE knows (id INTEGER PRIMARY KEY, a INTEGER REFERENCES person (id),
   b INTEGER REFERENCES person (id), since INTEGER);
 CREATE PROPERTY GRAPH g VERTEX TABLES (person)
@@ -518,7 +519,7 @@ fn asks_for_its_words(rt: HostRuntime) -> Result<(), Fail> {
         &["translate", "schema", "query", "query"],
         &["TRANSLATE", "schema", "query"],
         &["check"],
-        &["check", "schema", "query"],
+        &["check", "schema", "query", "query"],
         &["sample", "5"],
     ];
     for words in forms {
