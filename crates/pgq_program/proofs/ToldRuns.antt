@@ -52,7 +52,7 @@ module _ (said : Answer) (status : Status) (is : (status ≡ WriteFault → ⊥)
         → IfSome files (λ told. (outcome : Outcome) → Owes asked told (Ok outcome) → (Rose files_before files_now → ⊥) → ((status_of said ≡ Done) × IsTextOf outcome (out_text said)) ⊎ (status_of said ≡ NoMemory))
         → Gets status (out_text said) out_old out_new out_before out_now
         → IfSome files (λ told. (outcome : Outcome) → Owes asked told (Ok outcome) → (Rose files_before files_now → ⊥) → (Rose out_before out_now → ⊥) → (Rose err_before err_now → ⊥)
-            → ((status ≡ Done) × Writes outcome out_old out_new) ⊎ (status ≡ NoMemory))
+        → ((status ≡ Done) × Writes outcome out_old out_new) ⊎ (status ≡ NoMemory))
     complete_if out_old out_new asked None k gets = tt
     complete_if out_old out_new asked (Some told) k gets = λ outcome owes no_file no_out no_err. by outcome (calm no_out no_err) (k outcome owes no_file)
       where
@@ -64,7 +64,7 @@ module _ (said : Answer) (status : Status) (is : (status ≡ WriteFault → ⊥)
         → IfSome files (λ told. (refusal : AnyRefusal) → Owes asked told (Err (h.Refused refusal)) → (Rose files_before files_now → ⊥) → ((status_of said ≡ Refused) × (err_text said ≡ refusal_line refusal)) ⊎ (status_of said ≡ NoMemory))
         → Gets status (err_text said) err_old err_new err_before err_now
         → IfSome files (λ told. (refusal : AnyRefusal) → Owes asked told (Err (h.Refused refusal)) → (Rose files_before files_now → ⊥) → (Rose out_before out_now → ⊥) → (Rose err_before err_now → ⊥)
-            → ((status ≡ Refused) × Appends err_old err_new (refusal_line refusal)) ⊎ (status ≡ NoMemory))
+        → ((status ≡ Refused) × Appends err_old err_new (refusal_line refusal)) ⊎ (status ≡ NoMemory))
     refused_if err_old err_new asked None k gets = tt
     refused_if err_old err_new asked (Some told) k gets = λ refusal owes no_file no_out no_err. by refusal (calm no_out no_err) (k refusal owes no_file)
       where
