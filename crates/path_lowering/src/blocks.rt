@@ -63,7 +63,8 @@ fn pattern_of(piece: &Piece) -> &Pattern
     }
 }
 
-fn add_path_singletons<'a>(
+/// Adds the singletons of a path to some names.
+pub fn add_path_singletons<'a>(
     mut names: Vec<&'a Name>,
     path: &'a CheckedPath,
 ) -> Result<Vec<&'a Name>, NoMemory>
@@ -76,7 +77,7 @@ fn add_path_singletons<'a>(
 }
 
 /// The singletons of all paths.
-pub(crate) fn query_singletons(alloc: Global, query: &CheckedQuery) -> Result<Vec<&Name>, NoMemory>
+pub fn query_singletons(alloc: Global, query: &CheckedQuery) -> Result<Vec<&Name>, NoMemory>
     ensures { IfOk result (λ all. map (λ n. n.now) all.items ≡ singletons_of_query query.entry.now) }
 {
     let mut names = Vec::new(alloc);
@@ -215,7 +216,7 @@ fn spots_of(alloc: Global, part: &PathBlock, items: &[u32]) -> Result<Vec<Spot>,
 }
 
 /// The conditions of a path along its places: those of its alternatives and of its mode.
-fn path_conditions(
+pub fn path_conditions(
     alloc: Global,
     scene: &Scene<'_>,
     path: &CheckedPath,
@@ -321,11 +322,7 @@ fn tags_of<'a>(alloc: Global, parts: &'a [PathBlock]) -> Result<Vec<&'a Tags>, N
 }
 
 /// The items of the places of a graph block.
-pub(crate) fn items_of(
-    alloc: Global,
-    names: &[&Name],
-    parts: &[PathBlock],
-) -> Result<Vec<u32>, NoMemory>
+pub fn items_of(alloc: Global, names: &[&Name], parts: &[PathBlock]) -> Result<Vec<u32>, NoMemory>
     requires { length (flat_map (λ part. part.tags) parts.now) < 2 ^ 32 }
     ensures { IfOk result (λ items. items.items ≡ planned (map (λ n. n.now) names.now) (flat_map (λ part. part.tags) parts.now)) }
 {
@@ -361,7 +358,7 @@ fn laid_block<'a>(
 }
 
 /// The SELECT of a graph block.
-pub(crate) fn select_of_block(
+pub fn select_of_block(
     alloc: Global,
     scene: &Scene<'_>,
     query: &CheckedQuery,

@@ -18,11 +18,7 @@ fn other_kind(kind: Kind) -> Kind
 }
 
 /// The places of a path, vertices and edges in turn, with the first of some items.
-pub(crate) fn spots_along(
-    alloc: Global,
-    elements: &[u32],
-    items: &[u32],
-) -> Result<Vec<Spot>, NoMemory>
+pub fn spots_along(alloc: Global, elements: &[u32], items: &[u32]) -> Result<Vec<Spot>, NoMemory>
     requires { length elements.now ≤ length items.now }
     ensures { IfOk result (λ made. made.items ≡ spots_of_path Vertex elements.now items.now) }
 {
@@ -41,7 +37,7 @@ pub(crate) fn spots_along(
 }
 
 /// Adds places with their tags.
-pub(crate) fn add_places<'a>(
+pub fn add_places<'a>(
     places: Vec<Place<'a>>,
     own: &'a [Tags],
     spots: &[Spot],

@@ -78,7 +78,7 @@ fn selects_of(
 }
 
 /// The SELECTs, or the one that gives no row where there is none.
-fn or_none(
+pub fn or_none(
     alloc: Global,
     scene: &Scene<'_>,
     selects: List<Select>,
