@@ -55,11 +55,13 @@ module _ (catalog : Catalog) (instance : InstanceRows) where
 
   -- the rows of all SELECTs, block by block
   bag_of : (graph : Graph) (outputs : List Output) (make : Block → Select) (those : List Block)
-      → flat_map (λ select. select_rows catalog instance select []) (or_none (select_of_none catalog graph 65 outputs) (map make those)) ≡ flat_map (λ block. select_rows catalog instance (make block) []) those
+      → flat_map (λ select. select_rows catalog instance select []) (or_none (select_of_none catalog graph 65 outputs) (map make those))
+      ≡ flat_map (λ block. select_rows catalog instance (make block) []) those
   bag_of graph outputs make [] = ap (λ l. l ++ []) (none_rows graph outputs)
   bag_of graph outputs make (b ∷ bs) = ap (λ l. select_rows catalog instance (make b) [] ++ l) (each bs)
     where
-      each : (bs : List Block) → flat_map (λ select. select_rows catalog instance select []) (map make bs) ≡ flat_map (λ block. select_rows catalog instance (make block) []) bs
+      each : (bs : List Block)
+          → flat_map (λ select. select_rows catalog instance select []) (map make bs) ≡ flat_map (λ block. select_rows catalog instance (make block) []) bs
       each [] = refl
       each (c ∷ cs) = ap (λ l. select_rows catalog instance (make c) [] ++ l) (each cs)
 
@@ -90,7 +92,8 @@ module _ (catalog : Catalog) (instance : InstanceRows) where
       -- the rows of a block's SELECT are the block's part of the answer
       pub selected_block_is : select_rows catalog instance (selected_block catalog graph combined query block) [] ≡ answer_of_block graph instance query [] [] block
       selected_block_is =
-          let fit = all_fit catalog graph valid instance fitting.fits query ok query.paths block.paths (are catalog graph valid instance fitting.fits query ok 65 combined combines block there) in
+          let belong = are catalog graph valid instance fitting.fits query ok 65 combined combines block there in
+          let fit = all_fit catalog graph valid instance fitting.fits query ok query.paths block.paths belong in
           block_besides catalog graph instance 65 (query_singletons query) parts query.condition query.columns fitting.valid fitting.there fitting.fits
           (block_laid catalog graph valid instance fitting.fits query ok 65 combined combines block there)
           [] (flat_map (shorter_of catalog graph combined) parts) (keeps graph instance query.paths block.paths) [] say

@@ -1,5 +1,6 @@
 -- The conjuncts of a block's selectors are True exactly where each selector keeps the rows of its path.
-use Rattle.std.proofs.Common.{◌≡◌, ℕ, ◌+◌, ◌<◌, ◌≤◌, ◌^◌, Bool, true, false, ◌&&◌, cond, List, [], ◌∷◌, ◌++◌, map, filter, flat_map, length, take, drop, None, Some, refl, sym, ap, ap₂, ◌∙◌, inl, inr, arith, length-append}
+use Rattle.std.proofs.Common.{◌≡◌, ℕ, ◌+◌, ◌<◌, ◌≤◌, ◌^◌, Bool, true, false, ◌&&◌, cond, List, [], ◌∷◌, ◌++◌, map, filter, flat_map, length, take, drop, None, Some}
+use Rattle.std.proofs.Common.{refl, sym, ap, ap₂, ◌∙◌, inl, inr, arith, length-append}
 use Rattle.std.specs.List.{AllZip, enumerate_from, list_all}
 use Rattle.std.proofs.Math.ListN.{length-map}
 use Rattle.std.proofs.Math.Seq.{take-append_seam, drop-append_seam}
@@ -62,7 +63,8 @@ module _ (graph : Graph) (instance : InstanceRows) where
   keeps_all (path ∷ paths) (p ∷ ps) [] are h = absurd h
   keeps_all (path ∷ paths) (p ∷ ps) (r ∷ rs) are h =
       let long : length r ≡ length p.elements =
-      picks_many graph instance r (tables_of graph instance p.elements) (from_combinations r (tables_of graph instance p.elements) h.0) ∙ tables_many graph instance p.elements are.0.numbers in
+      picks_many graph instance r (tables_of graph instance p.elements) (from_combinations r (tables_of graph instance p.elements) h.0)
+      ∙ tables_many graph instance p.elements are.0.numbers in
       ap₂ (λ a b. a && b)
       (ap (row_selected graph instance path p) (first_rows r (all_rows rs) (length p.elements) long))
       (ap (keeps paths ps) (last_rows r (all_rows rs) (length p.elements) long) ∙ keeps_all paths ps rs are.1 h.1)
@@ -79,25 +81,31 @@ module _ (catalog : Catalog) (graph : Graph) (instance : InstanceRows) (combined
     columns = λ spot h. shows.columns spot (among spot h);
   }
 
-  module _ (sound : IsValidCatalog catalog) (graph_in : IsIn graph catalog.graphs) (fits : Fits catalog instance) (valid : IsValidGraph catalog graph) (query : CheckedQuery) (ok : IsLowerable graph query)
-      (combines : IsCombining combined) (tuple : Tuple) (rows : List RowValues) where
+  module _ (sound : IsValidCatalog catalog) (graph_in : IsIn graph catalog.graphs) (fits : Fits catalog instance) (valid : IsValidGraph catalog graph)
+      (query : CheckedQuery) (ok : IsLowerable graph query) (combines : IsCombining combined) (tuple : Tuple) (rows : List RowValues) where
+    abbrev own_rows : List Spot → List RowValues
+    own_rows spots = map (row_at rows) spots
+
     -- one path: no selector keeps all and adds no conjunct
     one_path : (path : CheckedPath) → IsIn path query.paths → (place : ℕ) (part : PathBlock) → IsIn part (path_blocks graph place path) → length part.elements < 2 ^ 32
-        → (items : List ℕ) → length part.elements ≤ length items → Shows catalog graph instance 65 (leaf_value catalog tuple) rows (spots_along Vertex part.elements items)
-        → all_hold tuple (shorter_of catalog graph combined (lay catalog graph 65 combined path part items)) ≡ row_selected graph instance path part (map (row_at rows) (spots_along Vertex part.elements items))
+        → (items : List ℕ) → length part.elements ≤ length items
+        → Shows catalog graph instance 65 (leaf_value catalog tuple) rows (spots_along Vertex part.elements items)
+        → all_hold tuple (shorter_of catalog graph combined (lay catalog graph 65 combined path part items))
+        ≡ row_selected graph instance path part (own_rows (spots_along Vertex part.elements items))
     one_path path among place part part_in few items enough shown = go path.all_shortest
       where
-        abbrev outside : List Spot
+        outside : List Spot
         outside = spots_along Vertex part.elements items
 
-        abbrev stays : PathBlock → Bool
+        stays : PathBlock → Bool
         stays other = conjunct_holds catalog instance (NotExists (candidate_select catalog graph (candidate_laid catalog graph combined path other) outside)) tuple
 
         go : (b : Bool) → all_hold tuple (cond b (none_shorter catalog graph combined path part outside) [])
-            ≡ is_selected (cond b (Some 1) None) (bindings_in_mode graph instance path) (binding_with graph part (map (row_at rows) outside))
+            ≡ is_selected (cond b (Some 1) None) (bindings_in_mode graph instance path) (binding_with graph part (own_rows outside))
         go false = refl
         go true =
-            list_all-map (λ conjunct. conjunct_holds catalog instance conjunct tuple) (λ other. NotExists (candidate_select catalog graph (candidate_laid catalog graph combined path other) outside))
+            list_all-map (λ conjunct. conjunct_holds catalog instance conjunct tuple)
+            (λ other. NotExists (candidate_select catalog graph (candidate_laid catalog graph combined path other) outside))
             (filter (is_candidate part) (path_blocks graph part.path path))
             ∙ ap (λ n. list_all stays (filter (is_candidate part) (path_blocks graph n path))) (block_place graph path place part part_in)
             ∙ path_shortest catalog graph instance sound graph_in fits valid query ok combined combines path among place part part_in few items enough tuple rows shown
@@ -110,7 +118,7 @@ module _ (catalog : Catalog) (graph : Graph) (instance : InstanceRows) (combined
         → AllZip IsIn parts (map (λ (n : ℕ × CheckedPath). path_blocks graph n.0 n.1) (enumerate_from n paths))
         → length items ≡ length (flat_map (λ part. part.elements) parts) → length (flat_map (λ part. part.elements) parts) < 2 ^ 32
         → Shows catalog graph instance 65 (leaf_value catalog tuple) rows (laid_spots (laid paths parts items))
-        → all_hold tuple (flat_map (shorter_of catalog graph combined) (laid paths parts items)) ≡ keeps graph instance paths parts (map (row_at rows) (laid_spots (laid paths parts items)))
+        → all_hold tuple (flat_map (shorter_of catalog graph combined) (laid paths parts items)) ≡ keeps graph instance paths parts (own_rows (laid_spots (laid paths parts items)))
     all_paths n [] parts items among are long few shown = refl
     all_paths n (path ∷ paths) [] items among are long few shown = refl
     all_paths n (path ∷ paths) (p ∷ ps) items among are long few shown =
@@ -118,14 +126,16 @@ module _ (catalog : Catalog) (graph : Graph) (instance : InstanceRows) (combined
         let own = spots_along Vertex p.elements items in
         let more = drop (length p.elements) items in
         let others = laid_spots (laid paths ps more) in
-        let size : length (map (row_at rows) own) ≡ length p.elements = length-map own (row_at rows) ∙ spots_many Vertex p.elements items split.0 in
+        let size : length (own_rows own) ≡ length p.elements = length-map own (row_at rows) ∙ spots_many Vertex p.elements items split.0 in
         let sum = length-append p.elements (flat_map (λ (part : PathBlock). part.elements) ps) in
         list_all-append (λ conjunct. conjunct_holds catalog instance conjunct tuple) (shorter_of catalog graph combined (lay catalog graph 65 combined path p items))
         (flat_map (shorter_of catalog graph combined) (laid paths ps more))
         ∙ ap₂ (λ a b. a && b)
         (one_path path (among path (inl refl)) n p are.0 (omega (arith, sum, few)) items split.0
         (shows_among (leaf_value catalog tuple) rows own (own ++ others) (λ spot h. in_append spot own others (inl h)) shown)
-        ∙ sym (ap (row_selected graph instance path p) (ap (take (length p.elements)) (map-append (row_at rows) own others) ∙ first_rows (map (row_at rows) own) (map (row_at rows) others) (length p.elements) size)))
+        ∙ sym (ap (row_selected graph instance path p)
+        (ap (take (length p.elements)) (map-append (row_at rows) own others) ∙ first_rows (own_rows own) (own_rows others) (length p.elements) size)))
         (all_paths (n + 1) paths ps more (λ q h. among q (inr h)) are.1 split.1 (omega (arith, sum, few))
         (shows_among (leaf_value catalog tuple) rows others (own ++ others) (λ spot h. in_append spot own others (inr h)) shown)
-        ∙ sym (ap (keeps graph instance paths ps) (ap (drop (length p.elements)) (map-append (row_at rows) own others) ∙ last_rows (map (row_at rows) own) (map (row_at rows) others) (length p.elements) size)))
+        ∙ sym (ap (keeps graph instance paths ps)
+        (ap (drop (length p.elements)) (map-append (row_at rows) own others) ∙ last_rows (own_rows own) (own_rows others) (length p.elements) size)))

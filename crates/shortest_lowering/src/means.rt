@@ -20,8 +20,10 @@ pub fn selected_law()
     ensures block { (catalog : Catalog) (query : CheckedQuery) (instance : InstanceRows)
         → IsFitting catalog (graph_at catalog query.graph) instance → IsLowerable (graph_at catalog query.graph) query
         → (combined : Combining) → IsCombining combined → (block : Block) → IsIn block (blocks (graph_at catalog query.graph) query)
-        → select_rows catalog instance (selected_block catalog (graph_at catalog query.graph) combined query block) [] ≡ answer_of_block (graph_at catalog query.graph) instance query [] [] block }
+        → select_rows catalog instance (selected_block catalog (graph_at catalog query.graph) combined query block) []
+        ≡ answer_of_block (graph_at catalog query.graph) instance query [] [] block }
     ensures answer { (catalog : Catalog) (query : CheckedQuery) (instance : InstanceRows)
         → IsFitting catalog (graph_at catalog query.graph) instance → IsLowerable (graph_at catalog query.graph) query
-        → (combined : Combining) → IsCombining combined → IsSameMultiset (answer catalog query [] [] instance) (bag catalog (selected_query catalog combined query) instance) }
+        → (combined : Combining) → IsCombining combined
+        → IsSameMultiset (answer catalog query [] [] instance) (bag catalog (selected_query catalog combined query) instance) }
 {}
