@@ -1,0 +1,2 @@
+pub mod SelectedRows
+pub mod SelectedMeans
