@@ -1,0 +1,3 @@
+pub mod SelectedParts
+pub mod SelectedSound
+pub mod SelectedPrintable
