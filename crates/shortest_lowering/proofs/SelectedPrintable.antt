@@ -113,7 +113,8 @@ module _ (catalog : Catalog) (query : CheckedQuery) (served : IsServed catalog q
       (and_join _ _ refl
       (and_join _ _
       (and_join _ _
-      (and_join _ _ (table_named_well catalog named (vertex_element graph 0).table (first_table catalog graph valid)) (and_join _ _ (alias_is_name 65 0 (omega arith) (omega arith)) refl))
+      (and_join _ _ (table_named_well catalog named (vertex_element graph 0).table (first_table catalog graph valid))
+      (and_join _ _ (alias_is_name 65 0 (omega arith) (omega arith)) refl))
       refl)
       (and_join _ _ (plain_printable (Lit (Truth false)) ∙ truth_printable false) refl))))
 
