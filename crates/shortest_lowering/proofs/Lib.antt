@@ -1,2 +1,5 @@
 pub mod SelectedRows
 pub mod SelectedMeans
+pub mod SelectedParts
+pub mod SelectedSound
+pub mod SelectedPrintable

@@ -1,4 +1,4 @@
-ghost use Rattle.std.specs.Prelude.{◌≡◌, IfOk};
+ghost use Rattle.std.specs.Prelude.{◌≡◌};
 ghost use Rattle.graph_ast.specs.declared.catalog.Catalog.{Catalog};
 ghost use Rattle.graph_ast.specs.declared.checked.CheckedQuery.{CheckedQuery};
 ghost use Rattle.graph_ast.specs.Lookups.{graph_at};
@@ -10,20 +10,22 @@ ghost use Rattle.path_lowering.specs.Sound.{IsSoundQuery};
 ghost use Rattle.path_lowering.specs.SoundTexts.{HasNames, IsSpelledQuery};
 ghost use Rattle.shortest_lowering.specs.Selected.{selected_query};
 
-use pgq_base::NoMemory;
+use graph_ast::empty_tables_fit;
 
-/// A law: the SQL query of a sound query is sound.
-pub fn sound_law() -> Result<(), NoMemory>
-    ensures { IfOk result (λ done. (catalog : Catalog) (query : CheckedQuery) → IsServed catalog query → IsSoundQuery catalog (graph_at catalog query.graph) query
-        → IsSound (selected_query catalog apart query) catalog) }
+/// A law: the SQL query of a query whose expressions are well classed and whose columns' names differ is sound in the catalog, NOT EXISTS
+/// of each shorter candidate included.
+pub fn sound_law()
+    ensures { (catalog : Catalog) (query : CheckedQuery) → IsServed catalog query → IsSoundQuery catalog (graph_at catalog query.graph) query
+        → IsSound (selected_query catalog apart query) catalog }
 {
-    Err(NoMemory)
+    empty_tables_fit();
 }
 
-/// A law: the SQL query of a query whose literals have a text has a text.
-pub fn printable_law() -> Result<(), NoMemory>
-    ensures { IfOk result (λ done. (catalog : Catalog) (query : CheckedQuery) → IsServed catalog query → HasNames catalog → IsSpelledQuery query
-        → IsPrintable (selected_query catalog apart query)) }
+/// A law: the SQL query of a query that has a column or more, whose expressions have texts and whose names are names has a text, NOT EXISTS
+/// of each shorter candidate included.
+pub fn printable_law()
+    ensures { (catalog : Catalog) (query : CheckedQuery) → IsServed catalog query → HasNames catalog → IsSpelledQuery query
+        → IsPrintable (selected_query catalog apart query) }
 {
-    Err(NoMemory)
+    empty_tables_fit();
 }
