@@ -1,0 +1,4 @@
+pub mod ComparableLemmas
+pub mod ShorterSteps
+pub mod StandingLemmas
+pub mod SmallLemmas
