@@ -3,3 +3,7 @@ pub mod SelectedMeans
 pub mod SelectedParts
 pub mod SelectedSound
 pub mod SelectedPrintable
+pub mod ComparableLemmas
+pub mod ShorterSteps
+pub mod StandingLemmas
+pub mod SmallLemmas
