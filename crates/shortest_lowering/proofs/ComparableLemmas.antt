@@ -29,12 +29,11 @@ use Rattle.path_lowering.specs.declared.spots.Kind.{Kind}
 use Rattle.path_lowering.specs.declared.spots.Kind.TheVariants.{Vertex, Edge}
 use Rattle.path_lowering.specs.declared.spots.Spot.{Spot}
 use Rattle.path_lowering.specs.Spots.{element_of_kind, element_at, same_kind, spots_along}
-use Rattle.path_lowering.specs.Shown.{count_of_kind}
 use Rattle.path_lowering.specs.Blocks.{own_spots, source_of}
 use Rattle.path_lowering.specs.Selects.{IsBlockLaid}
 use Rattle.path_lowering.specs.Lowered.{IsLowerable}
 use Rattle.path_lowering.specs.Apart.{apart}
-use Rattle.path_lowering.specs.Layable.{IsLayable, IsServed, AreEnds}
+use Rattle.path_lowering.specs.Layable.{IsLayable, IsServed}
 use Rattle.path_lowering.specs.Shortest.{spot_at, last_place, one_column, candidate_laid}
 use Rattle.path_lowering.proofs.Lists.{append-nil}
 use Rattle.path_lowering.proofs.ApartLemmas.{apart_combines}
@@ -43,7 +42,7 @@ use Rattle.path_lowering.proofs.CandidateLaid.{candidate_is_laid}
 use Rattle.path_lowering.proofs.ConditionLemmas.{tagged_map}
 use Rattle.path_lowering.proofs.EndLemmas.{first_element, last_element}
 use Rattle.path_lowering.proofs.Facts.{in_at, in_map}
-use Rattle.path_lowering.proofs.LaidLemmas.{Belongs, belongs, elements_there, some_number, plan_long}
+use Rattle.path_lowering.proofs.LaidLemmas.{Belongs, belongs, elements_there, some_number}
 use Rattle.path_lowering.proofs.LayableLemmas.{has_key}
 use Rattle.path_lowering.proofs.PlacingLemmas.{each_of}
 use Rattle.path_lowering.proofs.ServedLemmas.{graph_valid}
@@ -214,14 +213,16 @@ module _ (catalog : Catalog) (graph : Graph) (valid : IsValidGraph catalog graph
       let few_others : length (flat_map (λ part. part.elements) ps) < 2 ^ 32 = omega (arith, both, few) in
       let next = next_of [] candidates n (path_blocks graph n path) (map (λ (numbered : ℕ × CheckedPath). path_blocks graph numbered.0 numbered.1) (enumerate_from (n + 1) paths)) given in
       let is = path_is graph path n p h.0 in
-      let after : n + 1 ≡ suc n = omega arith in
-      (record {
-        there = subst (λ m. m < length candidates) (sym is) next.0;
-        own = subst (λ m. slice_index_or candidates m [] ≡ path_blocks graph m path) (sym is) next.1.0;
-        posed = subst (λ m. (items : List ℕ) → length p.elements ≤ length items → (other : PathBlock) → IsIn other (filter (is_candidate p) (path_blocks graph m path))
-            → IsPosed catalog graph path (spots_along Vertex p.elements items) other) (sym is)
-            (λ items enough_items other k. posed path (among path (inl refl)) n p h.0 few_own items enough_items other k);
-      }, all_comparable candidates (n + 1) paths ps (λ q k. among q (inr k)) few_others (ap (λ m. drop m candidates) after ∙ next.1.1) h.1)
+      let after : n + 1 ≡ suc n = omega arith in (
+        record {
+          there = subst (λ m. m < length candidates) (sym is) next.0;
+          own = subst (λ m. slice_index_or candidates m [] ≡ path_blocks graph m path) (sym is) next.1.0;
+          posed = subst (λ m. (items : List ℕ) → length p.elements ≤ length items → (other : PathBlock) → IsIn other (filter (is_candidate p) (path_blocks graph m path))
+              → IsPosed catalog graph path (spots_along Vertex p.elements items) other) (sym is)
+              (λ items enough_items other k. posed path (among path (inl refl)) n p h.0 few_own items enough_items other k);
+        },
+        all_comparable candidates (n + 1) paths ps (λ q k. among q (inr k)) few_others (ap (λ m. drop m candidates) after ∙ next.1.1) h.1,
+      )
 
 -- a graph block of a query that can be lowered
 pub comparable : (catalog : Catalog) (query : CheckedQuery) (served : IsServed catalog query) (fits : Fits catalog (without_rows catalog)) (block : Block) → IsIn block (blocks (graph_at catalog query.graph) query)

@@ -1,6 +1,6 @@
 -- The SQL query of a graph query, selectors included: a SELECT for each graph block, in their order, in which for each path under ALL SHORTEST
 -- no shorter candidate has rows between its ends (this project's own).
-use Rattle.std.specs.Prelude.{ℕ, List, [], ◌∷◌, ◌++◌, map, cond, flat_map}
+use Rattle.std.specs.Prelude.{List, [], map, cond, flat_map}
 use Rattle.graph_ast.specs.declared.catalog.Catalog.{Catalog}
 use Rattle.graph_ast.specs.declared.catalog.Graph.{Graph}
 use Rattle.graph_ast.specs.declared.checked.CheckedQuery.{CheckedQuery}

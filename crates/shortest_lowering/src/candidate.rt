@@ -106,10 +106,7 @@ fn add_plain(
 }
 
 /// The SELECT with more conditions, as conjuncts of their own.
-fn with_conditions(
-    select: Select,
-    conditions: Vec<Expr<ColumnLeaf>>,
-) -> Result<Select, NoMemory>
+fn with_conditions(select: Select, conditions: Vec<Expr<ColumnLeaf>>) -> Result<Select, NoMemory>
     ensures { IfOk result (λ all. all ≡ with_conjuncts select (map Plain conditions.items)) }
 {
     let Select {
