@@ -1,10 +1,10 @@
-ghost use Rattle.std.specs.Prelude.{◌≡◌, IfOk};
+ghost use Rattle.std.specs.Prelude.{◌≡◌, IfOk, []};
 ghost use Rattle.multisets.specs.Bags.{IsSameMultiset};
 ghost use Rattle.pgq_base.specs.Instances.{InstanceRows};
 ghost use Rattle.graph_ast.specs.Fits.{Fits};
 ghost use Rattle.graph_ast.specs.Lookups.{graph_at};
 ghost use Rattle.graph_meaning.specs.Answers.{answer};
-ghost use Rattle.graph_meaning.specs.Blocks.{blocks, query_path_blocks};
+ghost use Rattle.graph_meaning.specs.Blocks.{blocks as blocks_of, query_path_blocks};
 ghost use Rattle.sql_algebra.specs.Meaning.{bag};
 ghost use Rattle.path_lowering.specs.Apart.{apart};
 ghost use Rattle.path_lowering.specs.Layable.{IsServed};
@@ -26,7 +26,7 @@ pub fn lower_selected(
     candidates: &[List<PathBlock>],
 ) -> Result<SqlQuery, NoMemory>
     requires served { IsServed catalog.now query.now }
-    requires blocks { blocks.now ≡ blocks (graph_at catalog.now query.now.graph) query.now }
+    requires blocks { blocks.now ≡ blocks_of (graph_at catalog.now query.now.graph) query.now }
     requires candidates { candidates.now ≡ query_path_blocks (graph_at catalog.now query.now.graph) query.now }
     ensures exact { IfOk result (λ sql. sql ≡ selected_query catalog.now apart query.now) }
     ensures means { IfOk result (λ sql. (instance : InstanceRows) → Fits catalog.now instance
