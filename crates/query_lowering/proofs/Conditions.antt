@@ -1,9 +1,9 @@
 -- The element patterns and the conditions of a query, found as members of the lists that the rules on queries speak of.
-use Rattle.std.proofs.Common.{◌≡◌, ℕ, Bool, true, List, [], ◌∷◌, ◌++◌, map, flat_map, option_to_list, refl, sym, ap, ap₂, subst, ◌∙◌, inl, inr, Option, None, Some, bytes_eq}
+use Rattle.std.proofs.Common.{◌≡◌, ℕ, true, List, [], ◌∷◌, ◌++◌, flat_map, option_to_list, refl, sym, ap, ap₂, subst, inl, inr, Option, Some, bytes_eq}
 use Rattle.std.specs.List.{AllByRecursion}
 use Rattle.std.proofs.lemmas.Slice.Eq.{bytes_eq-Decides}
 use Rattle.multisets.specs.Bags.{IsIn}
-use Rattle.multisets.proofs.Members.{in_append, in_parts}
+use Rattle.multisets.proofs.Members.{in_append}
 use Rattle.graph_ast.specs.declared.checked.CheckedPath.{CheckedPath}
 use Rattle.graph_ast.specs.declared.checked.CheckedQuery.{CheckedQuery}
 use Rattle.graph_ast.specs.declared.checked.Operand.{Operand}
@@ -11,7 +11,6 @@ use Rattle.graph_ast.specs.declared.checked.Step.{Step}
 use Rattle.graph_ast.specs.declared.checked.Step.TheVariants.{One, Part}
 use Rattle.graph_ast.specs.declared.checked.Piece.{Piece}
 use Rattle.graph_ast.specs.declared.checked.Piece.TheVariants as form
-use Rattle.graph_ast.specs.declared.checked.Pattern.{Pattern}
 use Rattle.graph_ast.specs.declared.blocks.Alternative.{Alternative}
 use Rattle.graph_meaning.specs.Choices.{Condition, Scoped, expansion_of, pattern_of}
 use Rattle.graph_meaning.proofs.Members.{in_map, in_flat, from_flat}

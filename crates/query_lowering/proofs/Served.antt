@@ -1,5 +1,4 @@
 -- A query that is to be written as SQL can be lowered.
-use Rattle.std.proofs.Common.{◌≡◌, ◌≤◌, ◌<◌, length, Some}
 use Rattle.expr_tree.specs.Leaves.{EachLeaf, leaves_in}
 use Rattle.expr_tree.proofs.Folds.{each_implies}
 use Rattle.multisets.specs.Bags.{IsIn}

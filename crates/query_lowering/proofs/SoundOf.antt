@@ -1,8 +1,8 @@
 -- The expressions of a query that is to be written as SQL are sound.
-use Rattle.std.proofs.Common.{◌≡◌, ℕ, Bool, true, false, ◌||◌, cond, List, [], ◌∷◌, is_some, refl, sym, ap, subst, ◌∙◌, inl, inr, Option, None, Some, bytes_eq, true≢false}
+use Rattle.std.proofs.Common.{◌≡◌, ℕ, Bool, true, false, ◌||◌, cond, List, [], ◌∷◌, is_some, refl, sym, ap, ◌∙◌, inl, inr, Option, None, Some, bytes_eq, true≢false}
 use Rattle.std.specs.List.{list_any}
 use Rattle.std.proofs.lemmas.Slice.Eq.{bytes_eq-Decides}
-use Rattle.expr_tree.specs.Leaves.{EachLeaf, leaves_in}
+use Rattle.expr_tree.specs.Leaves.{leaves_in}
 use Rattle.expr_tree.proofs.Folds.{each_implies}
 use Rattle.multisets.specs.Bags.{IsIn}
 use Rattle.graph_ast.specs.declared.catalog.Catalog.{Catalog}

@@ -1,5 +1,5 @@
 -- The expressions of a query that is to be written as SQL have texts, if the names of its columns and those of the catalog are names.
-use Rattle.std.proofs.Common.{◌≡◌, true, Some}
+use Rattle.std.proofs.Common.{◌≡◌, true}
 use Rattle.multisets.specs.Bags.{IsIn}
 use Rattle.graph_ast.specs.declared.catalog.Catalog.{Catalog}
 use Rattle.graph_ast.specs.declared.catalog.Table.{Table}
