@@ -1,6 +1,8 @@
 //! From a checked query to the SQL query whose rows are its answer.
 #![tactic(auto)]
 
-mod lower;
+mod candidates;
+mod lowering;
+mod names;
 
-pub use lower::lower;
+pub use lowering::lower;
