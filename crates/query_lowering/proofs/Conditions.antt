@@ -107,8 +107,8 @@ path_condition query path there c h =
     (in_flat of_operand c operand.0 path.operands operand.1 (subst (λ l. IsIn c l) (same_of_operand operand.0) operand.2))))
 
 -- so is a condition of a choice
-pub choice_condition : (query : CheckedQuery) (path : CheckedPath) → IsIn path query.paths → (choice : Alternative) (scoped : Scoped) → IsIn scoped (expansion_of path choice).conditions
-    → IsIn scoped.condition (conditions_of query)
+pub choice_condition : (query : CheckedQuery) (path : CheckedPath) → IsIn path query.paths → (choice : Alternative) (scoped : Scoped)
+    → IsIn scoped (expansion_of path choice).conditions → IsIn scoped.condition (conditions_of query)
 choice_condition query path there choice scoped h = path_condition query path there scoped.condition (condition_among path choice scoped h)
 
 -- and the last one
