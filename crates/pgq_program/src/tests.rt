@@ -264,6 +264,8 @@ fn translates(rt: HostRuntime) -> Result<(), Fail> {
 // The first fault of the schema text, or else of the query text.
 static REFUSALS: [(&str, &str, &str); 24] = [
     ("", QUERY, "schema:0-0: 201 unexpected\n"),
+    // The schema comes first, and of a text its bytes, its form and its rules.
+    ("CREATE TABLE \"\" (a", QUERY, "schema:13-15: 104 bad name\n"),
     ("x", "SELECT @", "schema:0-1: 201 unexpected\n"),
     (
         "CREATE TABLE t (#",
@@ -358,8 +360,6 @@ static REFUSALS: [(&str, &str, &str); 24] = [
         "SELECT * FROM GRAPH_TABLE (H MATCH SHORTEST 2 GROUP (x)-[e]->{1,2}(y) COLUMNS (z.id))",
         "query:0-0: 201 unexpected\n",
     ),
-    // The schema comes first, and of a text the bytes, then the form.
-    ("CREATE TABLE \"\" (a", QUERY, "schema:13-15: 104 bad name\n"),
     (
         SCHEMA,
         "SELECT * FROM GRAPH_TABLE (G MATCH (x)-[e]->(y) COLUMNS (x.city AS 'c'))",
