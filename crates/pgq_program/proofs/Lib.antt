@@ -13,4 +13,6 @@ pub mod PlacedSqls
 pub mod PlacedTables
 pub mod PlacedTexts
 pub mod RowWidths
+pub mod TextsDue
+pub mod TranslatableQueries
 pub mod Translated

@@ -30,7 +30,8 @@ use Rattle.pgq_program.specs.Queries.{served, IsJudged, IsQueryRead}
 use Rattle.pgq_program.specs.Rows.{IsSqlRead}
 use Rattle.pgq_program.specs.Halts.{places_or}
 use Rattle.pgq_program.specs.Schemas.{IsLexed, IsChecked, IsRead}
-use Rattle.pgq_program.specs.Steps.{Halted, IsCatalogAt, IsQueryAt, IsCheckedAt, IsSqlAt, rows_at, IsTableAt, IsTableOf, Owes, text_at, translate_due}
+use Rattle.pgq_program.specs.Steps.{Halted, IsCatalogAt, IsQueryAt, IsCheckedAt, IsTranslationIn, IsTranslationOf, IsSqlAt, rows_at, IsTableAt, IsTableOf, Owes, text_at}
+use Rattle.pgq_program.specs.Texts.{sized, IsSchemaDue, IsQueryDue, IsPairDue, IsTextsDue}
 
 abbrev pub IsSingle : {A E : Type 0} → (Result A E → Type 0) → Type 0
 IsSingle {A} {E} due = (x y : Result A E) → due x → due y → x ≡ y
@@ -116,6 +117,12 @@ single_checked_at : (schema name : List ℕ) (files : List (List ℕ × List ℕ
 single_checked_at schema name files =
     single_then (IsCatalogAt schema files) (λ catalog. IsQueryAt catalog name files) (single_catalog_at schema files) (λ catalog. single_query_at catalog name files)
 
+single_translation : (schema name : List ℕ) (files : List (List ℕ × List ℕ)) → IsSingle (IsTranslationOf schema name files)
+single_translation schema name files =
+    single_then (IsCatalogAt schema files) (λ catalog. IsTranslationIn catalog name files) (single_catalog_at schema files)
+    (λ catalog. single_then (IsQueryAt catalog name files) (λ checked. Only (Ok (Outcome.Translation catalog checked))) (single_query_at catalog name files)
+    (λ checked. single_only (Ok (Outcome.Translation catalog checked))))
+
 single_sql : (catalog : Catalog) (text : List ℕ) → IsSingle (IsSqlRead catalog text)
 single_sql catalog text = single_then (IsLexed Sql text) (λ tokens. Then (sql.IsOutcome tokens (length text)) (λ tree. Only (sql_rules.due catalog tree))) (single_lexed Sql text)
     (λ tokens. single_then (sql.IsOutcome tokens (length text)) (λ tree. Only (sql_rules.due catalog tree)) (sql_text.one_outcome tokens (length text)) (λ tree. single_only (sql_rules.due catalog tree)))
@@ -140,11 +147,23 @@ single_table_of schema sql words files =
 -- the words are due one answer
 pub single_owes : (asked : Option Asked) (files : List (List ℕ × List ℕ)) (x y : Result Outcome Halt) → Owes asked files x → Owes asked files y → x ≡ y
 single_owes None files = λ x y p q. p ∙ sym q
-single_owes (Some (Asked.OfTranslate schema query)) files =
-    single_then (Only (translate_due schema query files)) (λ checked. Only (Ok (Outcome.Translation checked.0 checked.1))) (single_only (translate_due schema query files)) (λ checked. single_only (Ok (Outcome.Translation checked.0 checked.1)))
+single_owes (Some (Asked.OfTranslate schema query)) files = single_translation schema query files
 single_owes (Some (Asked.OfCheck schema)) files =
     single_then (IsCatalogAt schema files) (λ catalog. Only (Ok Outcome.Sound)) (single_catalog_at schema files) (λ catalog. single_only (Ok Outcome.Sound))
 single_owes (Some (Asked.OfCheckQuery schema name)) files =
     single_then (IsCheckedAt schema name files) (λ checked. Only (Ok (Outcome.Weighed checked.weight))) (single_checked_at schema name files)
     (λ checked. single_only (Ok (Outcome.Weighed checked.weight)))
 single_owes (Some (Asked.OfEval schema sql words)) files = single_table_of schema sql words files
+
+-- ---- two texts
+
+single_schema_due : (schema : List ℕ) → IsSingle (IsSchemaDue schema)
+single_schema_due schema = single_then (Only (sized Schema schema)) IsRead (single_only (sized Schema schema)) single_read
+
+single_query_due : (catalog : Catalog) (query : List ℕ) → IsSingle (IsQueryDue catalog query)
+single_query_due catalog query = single_then (Only (sized Query query)) (IsQueryRead catalog) (single_only (sized Query query)) (single_query catalog)
+
+pub single_texts : (schema query : List ℕ) → IsSingle (IsTextsDue schema query)
+single_texts schema query =
+    single_then (IsSchemaDue schema) (λ catalog. IsPairDue catalog query) (single_schema_due schema)
+    (λ catalog. single_then (IsQueryDue catalog query) (λ checked. Only (Ok (catalog, checked))) (single_query_due catalog query) (λ checked. single_only (Ok (catalog, checked))))

@@ -1,4 +1,4 @@
--- A refusal of a schema text under `check` names a part of the text.
+-- A refusal of a schema text names a part of the text.
 use Rattle.std.proofs.Common.{◌≡◌, refl, sym, ap, subst, ℕ, List, length, inl, inr, Option, None, Some, IfErr, Result, Ok, Err}
 use Rattle.pgq_base.specs.declared.refusal.Refusal.{Refusal}
 use Rattle.pgq_base.specs.declared.refusal.Role.{Role}

@@ -4,14 +4,6 @@ use Rattle.pgq_base.specs.Files.{content_of}
 use Rattle.pgq_base.specs.declared.refusal.Refusal.{Refusal}
 use Rattle.pgq_base.specs.declared.refusal.Role.{Role}
 use Rattle.pgq_base.specs.declared.refusal.Role.TheVariants.{Schema, Query, Sql}
-use Rattle.edge_meaning.specs.declared.graph.EdgeGraph.{EdgeGraph}
-use Rattle.edge_meaning.specs.declared.query.EdgeQuery.{EdgeQuery}
-use Rattle.edge_texts.specs.Refusals.{schema_due}
-use Rattle.edge_texts.specs.Schemas.{schema_of}
-use Rattle.edge_texts.specs.Queries.{query_of}
-use Rattle.edge_texts.specs.QueryRefusals.{query_due}
-use Rattle.edge_texts.specs.Spans.{SpansLieIn}
-use Rattle.edge_texts.proofs.SpansInText.{query_given}
 use Rattle.pgq_program.specs.declared.halt.Halt.TheVariants as h
 use Rattle.pgq_program.specs.declared.answers.Answer.{Answer}
 use Rattle.pgq_program.specs.declared.answers.Answer.TheVariants as a
@@ -20,8 +12,8 @@ use Rattle.pgq_program.specs.Commands.{Asked}
 use Rattle.pgq_program.specs.Places.{NamesPart, IsLineDue, of_role, text_for}
 use Rattle.pgq_program.specs.Runs.{IsDue, status_of, err_text}
 use Rattle.pgq_program.specs.Halts.{halting}
-use Rattle.pgq_program.specs.Steps.{Owes, IsTableOf, IsCatalogAt, IsCheckedAt, held_text, text_at, graph_at, query_at, translate_due}
-use Rattle.pgq_program.specs.Texts.{next, sized, checked}
+use Rattle.pgq_program.specs.Steps.{Owes, IsTableOf, IsTranslationOf, IsCatalogAt, IsCheckedAt, held_text}
+use Rattle.pgq_program.specs.Texts.{sized}
 use Rattle.pgq_program.proofs.Placed.{IsPlaced, read}
 use Rattle.pgq_program.proofs.PlacedQueries.{query_read}
 use Rattle.pgq_program.proofs.PlacedSqls.{sql_read, too_many_lies}
@@ -29,7 +21,7 @@ use Rattle.pgq_program.proofs.PlacedTables.{IsTablePlaced, table_part, rows_plac
 use Rattle.pgq_program.specs.Rows.{too_many}
 use Rattle.table_words.specs.declared.word.TableWord.{TableWord}
 use Rattle.table_files.specs.TablePlaces.{table_places}
-use Rattle.pgq_program.proofs.PlacedTexts.{refused_next, given_next, too_large, within_size, formless, names_lie, schema_part, query_part, sql_part}
+use Rattle.pgq_program.proofs.PlacedTexts.{too_large, within_size, schema_part, query_part, sql_part}
 
 halted : {A : Type 0} (due : Result A Refusal) (r : Refusal) → halting due ≡ Err (h.Refused r) → due ≡ Err r
 halted (Ok x) r e = absurd cc
@@ -58,25 +50,6 @@ module _ (files : List (List ℕ × List ℕ)) (name : List ℕ) where
   refused_catalog r (inl e) = refused_text Schema r (content_of name files) e
   refused_catalog r (inr (text, e, fault)) = (text, read_text Schema text (content_of name files) e, read text r fault)
 
-  refused_graph : (r : Refusal) → graph_at name files ≡ Err (h.Refused r) → OfText (λ text. IsPlaced Schema (length text) r) (content_of name files)
-  refused_graph r e = by (refused_next (text_at Schema name files) _ (h.Refused r) e)
-    where
-      by : ((text_at Schema name files ≡ Err (h.Refused r)) ⊎ ((text : List ℕ) × (text_at Schema name files ≡ Ok text) × (halting (schema_due text) ≡ Err (h.Refused r)))) → OfText (λ text. IsPlaced Schema (length text) r) (content_of name files)
-      by (inl e) = refused_text Schema r (content_of name files) e
-      by (inr (text, is, e)) = (text, read_text Schema text (content_of name files) is, formless Schema (length text) (schema_of text) r (halted (schema_due text) r e))
-
-  refused_query : (r : Refusal) → query_at name files ≡ Err (h.Refused r) → OfText (λ text. IsPlaced Query (length text) r) (content_of name files)
-  refused_query r e = by (refused_next (text_at Query name files) _ (h.Refused r) e)
-    where
-      by : ((text_at Query name files ≡ Err (h.Refused r)) ⊎ ((text : List ℕ) × (text_at Query name files ≡ Ok text) × (halting (query_due text) ≡ Err (h.Refused r)))) → OfText (λ text. IsPlaced Query (length text) r) (content_of name files)
-      by (inl e) = refused_text Query r (content_of name files) e
-      by (inr (text, is, e)) = (text, read_text Query text (content_of name files) is, formless Query (length text) (query_of text) r (halted (query_due text) r e))
-
-  given_query : (asked : EdgeQuery) → query_at name files ≡ Ok asked → OfText (λ text. SpansLieIn (length text) asked) (content_of name files)
-  given_query asked e =
-      let found = given_next (text_at Query name files) _ asked e in
-      (found.0, read_text Query found.0 (content_of name files) found.1, query_given found.0 asked (kept (query_due found.0) asked found.2))
-
 -- ---- the words
 
 in_schema : (schema query sql : Option (List ℕ)) (r : Refusal) → OfText (λ text. IsPlaced Schema (length text) r) schema → NamesPart (of_role schema query sql) r
@@ -88,26 +61,17 @@ in_query schema query sql r (text, held, placed) = subst (λ o. NamesPart (of_ro
 in_sql : (schema query sql : Option (List ℕ)) (r : Refusal) → OfText (λ text. IsPlaced Sql (length text) r) sql → NamesPart (of_role schema query sql) r
 in_sql schema query sql r (text, held, placed) = subst (λ o. NamesPart (of_role schema query o) r) (sym held) (sql_part schema query text r placed)
 
-by_translate : (schema query : List ℕ) (files : List (List ℕ × List ℕ)) (r : Refusal) → translate_due schema query files ≡ Err (h.Refused r) → NamesPart (of_role (content_of schema files) (content_of query files) None) r
-by_translate schema query files r e = by_graph (refused_next (graph_at schema files) _ (h.Refused r) e)
-  where
-    by_query : (graph : EdgeGraph) → ((query_at query files ≡ Err (h.Refused r)) ⊎ ((asked : EdgeQuery) × (query_at query files ≡ Ok asked) × (halting (checked graph asked) ≡ Err (h.Refused r))))
-        → NamesPart (of_role (content_of schema files) (content_of query files) None) r
-    by_query graph (inl e) = in_query (content_of schema files) (content_of query files) None r (refused_query files query r e)
-    by_query graph (inr (asked, is, e)) =
-        let found = given_query files query asked is in
-        in_query (content_of schema files) (content_of query files) None r (found.0, found.1, names_lie graph asked (length found.0) r found.2 (halted (checked graph asked) r e))
-
-    by_graph : ((graph_at schema files ≡ Err (h.Refused r)) ⊎ ((graph : EdgeGraph) × (graph_at schema files ≡ Ok graph) × (next (query_at query files) (λ asked. halting (checked graph asked)) ≡ Err (h.Refused r))))
-        → NamesPart (of_role (content_of schema files) (content_of query files) None) r
-    by_graph (inl e) = in_schema (content_of schema files) (content_of query files) None r (refused_graph files schema r e)
-    by_graph (inr (graph, is, e)) = by_query graph (refused_next (query_at query files) _ (h.Refused r) e)
-
 by_check : (schema query : List ℕ) (files : List (List ℕ × List ℕ)) (r : Refusal) → IsCheckedAt schema query files (Err (h.Refused r)) → NamesPart (of_role (content_of schema files) (content_of query files) None) r
 by_check schema query files r (inl fault) = in_schema (content_of schema files) (content_of query files) None r (refused_catalog files schema r fault)
 by_check schema query files r (inr (catalog, e, inl fault)) = in_query (content_of schema files) (content_of query files) None r (refused_text Query r (content_of query files) fault)
 by_check schema query files r (inr (catalog, e, inr (text, held, fault))) =
     in_query (content_of schema files) (content_of query files) None r (text, read_text Query text (content_of query files) held, query_read catalog text r fault)
+
+by_translate : (schema query : List ℕ) (files : List (List ℕ × List ℕ)) (r : Refusal) → IsTranslationOf schema query files (Err (h.Refused r))
+    → NamesPart (of_role (content_of schema files) (content_of query files) None) r
+by_translate schema query files r (inl fault) = by_check schema query files r (inl fault)
+by_translate schema query files r (inr (catalog, e, inl fault)) = by_check schema query files r (inr (catalog, e, fault))
+by_translate schema query files r (inr (catalog, e, inr (checked, k, other))) = absurd cc
 
 by_rows : (schema sql text : List ℕ) (files : List (List ℕ × List ℕ)) (r : Refusal) → content_of sql files ≡ Some text → (too_many Sql ≡ r) ⊎ IsTablePlaced r
     → NamesPart (of_role (content_of schema files) None (content_of sql files)) r
@@ -126,8 +90,7 @@ by_eval schema sql words files r (inr (catalog, e, inr (places, is, inr (query, 
 
 placed : (asked : Option Asked) (files : List (List ℕ × List ℕ)) (r : Refusal) → Owes asked files (Err (h.Refused r)) → NamesPart (text_for asked files) r
 placed None files r e = absurd cc
-placed (Some (Asked.OfTranslate schema query)) files r (inl e) = by_translate schema query files r e
-placed (Some (Asked.OfTranslate schema query)) files r (inr (checked, e, other)) = absurd cc
+placed (Some (Asked.OfTranslate schema query)) files r e = by_translate schema query files r e
 placed (Some (Asked.OfCheck schema)) files r (inl fault) = in_schema (content_of schema files) None None r (refused_catalog files schema r fault)
 placed (Some (Asked.OfCheck schema)) files r (inr (catalog, e, other)) = absurd cc
 placed (Some (Asked.OfCheckQuery schema query)) files r (inl fault) = by_check schema query files r fault

@@ -1,4 +1,4 @@
--- A refusal of a query text under `check` names a part of the text.
+-- A refusal of a query text names a part of the text.
 use Rattle.std.proofs.Common.{◌≡◌, refl, sym, ap, subst, ℕ, List, length, Bool, true, false, cond, inl, inr, Option, None, Some, IfErr, Result, Ok, Err, arith}
 use Rattle.pgq_base.specs.declared.refusal.Refusal.{Refusal}
 use Rattle.pgq_base.specs.declared.refusal.Role.TheVariants.{Query}
@@ -29,10 +29,15 @@ ruled_by : (n : ℕ) (o : Option Fault) (query : CheckedQuery) (r : Refusal) →
 ruled_by n None query r lies e = absurd cc
 ruled_by n (Some f) query r lies e = let same : refusal_of f ≡ r = cc in subst (IsPlaced Query n) same (refl, lies)
 
-Served : QueryTree → Bool → Result QueryTree Refusal
+pub Served : QueryTree → Bool → Result QueryTree Refusal
 Served tree b = cond b (Ok tree) (Err not_served)
 
-served_same : (tree other : QueryTree) (b : Bool) → Served tree b ≡ Ok other → tree ≡ other
+pub served_true : (tree other : QueryTree) (b : Bool) → Served tree b ≡ Ok other → b ≡ true
+unfolding Served
+served_true tree other true e = refl
+served_true tree other false e = absurd cc
+
+pub served_same : (tree other : QueryTree) (b : Bool) → Served tree b ≡ Ok other → tree ≡ other
 unfolding Served
 served_same tree other true e = cc
 served_same tree other false e = absurd cc

@@ -1,22 +1,22 @@
 -- What is written under Done.
 use Rattle.std.specs.Prelude.{◌≡◌, ℕ, List, ◌++◌, Option, codes, decimal}
 use Rattle.std.specs.Io.KnownBytes.{Appends}
-use Rattle.edge_meaning.specs.declared.graph.EdgeGraph.{EdgeGraph}
-use Rattle.edge_meaning.specs.declared.query.EdgeQuery.{EdgeQuery}
+use Rattle.graph_ast.specs.declared.catalog.Catalog.{Catalog}
+use Rattle.graph_ast.specs.declared.checked.CheckedQuery.{CheckedQuery}
 use Rattle.pgq_base.specs.Instances.{TableRows}
 use Rattle.csv_tables.specs.Writing.{table_text}
 use Rattle.pgq_program.specs.Meaning.{Means}
 
--- the outcome of a command: a query over a graph, of which a text that means it is written, that a text is without faults, that a query's is and has a weight, or the table of rows under the names of their columns
+-- the outcome of a command: a query in a catalog, of which a text that means it is written, that a text is without faults, that a query's is and has a weight, or the table of rows under the names of their columns
 pub data Outcome : Type 0 where
-  Translation : EdgeGraph → EdgeQuery → Outcome
+  Translation : Catalog → CheckedQuery → Outcome
   Sound : Outcome
   Weighed : ℕ → Outcome
   Table : List (List ℕ) → TableRows → Outcome
 
 -- the texts of an outcome
 abbrev pub IsTextOf : Outcome → List ℕ → Type 0
-IsTextOf (Outcome.Translation graph query) text = Means graph query text
+IsTextOf (Outcome.Translation catalog query) text = Means catalog query text
 IsTextOf Outcome.Sound text = text ≡ codes "ok\n"
 IsTextOf (Outcome.Table names rows) text = text ≡ table_text names rows
 IsTextOf (Outcome.Weighed weight) text = text ≡ codes "ok, weight " ++ decimal weight ++ codes "\n"

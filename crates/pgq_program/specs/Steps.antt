@@ -15,10 +15,6 @@ use Rattle.sql_algebra.specs.Meaning.{names_of}
 use Rattle.table_words.specs.declared.word.TableWord.{TableWord}
 use Rattle.table_files.specs.TablePlaces.{table_places}
 use Rattle.table_loads.specs.Loads.{instance_at}
-use Rattle.edge_meaning.specs.declared.graph.EdgeGraph.{EdgeGraph}
-use Rattle.edge_meaning.specs.declared.query.EdgeQuery.{EdgeQuery}
-use Rattle.edge_texts.specs.Refusals.{schema_due}
-use Rattle.edge_texts.specs.QueryRefusals.{query_due}
 use Rattle.pgq_program.specs.declared.halt.Halt.{Halt}
 use Rattle.pgq_program.specs.declared.halt.Halt.TheVariants as h
 use Rattle.pgq_program.specs.Commands.{Asked}
@@ -28,7 +24,7 @@ use Rattle.pgq_program.specs.Outcomes.{Outcome, IsTextOf}
 use Rattle.pgq_program.specs.Queries.{IsQueryRead}
 use Rattle.pgq_program.specs.Rows.{IsSqlRead, rows_due}
 use Rattle.pgq_program.specs.Schemas.{IsRead}
-use Rattle.pgq_program.specs.Texts.{next, sized, checked, Checked}
+use Rattle.pgq_program.specs.Texts.{next, sized}
 
 -- a stop of a call halts the run
 abbrev pub halt_of : Stop Refusal → Halt
@@ -43,16 +39,6 @@ held_text role (Some text) = halting (sized role text)
 -- reading a file, up to its size
 abbrev pub text_at : Role → List ℕ → List (List ℕ × List ℕ) → Result (List ℕ) Halt
 text_at role name files = held_text role (content_of name files)
-
-abbrev pub graph_at : List ℕ → List (List ℕ × List ℕ) → Result EdgeGraph Halt
-graph_at name files = next (text_at Schema name files) (λ text. halting (schema_due text))
-
-abbrev pub query_at : List ℕ → List (List ℕ × List ℕ) → Result EdgeQuery Halt
-query_at name files = next (text_at Query name files) (λ text. halting (query_due text))
-
--- the schema file is read and looked at first, then the query file, then the query's names
-abbrev pub translate_due : List ℕ → List ℕ → List (List ℕ × List ℕ) → Result Checked Halt
-translate_due schema query files = next (graph_at schema files) (λ graph. next (query_at query files) (λ asked. halting (checked graph asked)))
 
 -- what is due a step that reads no file
 abbrev pub Halted : {A : Type 0} → (Result A Refusal → Type 0) → Result A Halt → Type 0
@@ -73,6 +59,14 @@ IsQueryAt catalog name files answer = Then (Only (text_at Query name files)) (λ
 -- the schema file first, and then the query file
 abbrev pub IsCheckedAt : List ℕ → List ℕ → List (List ℕ × List ℕ) → Result CheckedQuery Halt → Type 0
 IsCheckedAt schema query files answer = Then (IsCatalogAt schema files) (λ catalog. IsQueryAt catalog query files) answer
+
+-- the query file of a translation, in the catalog of the schema file
+abbrev pub IsTranslationIn : Catalog → List ℕ → List (List ℕ × List ℕ) → Result Outcome Halt → Type 0
+IsTranslationIn catalog query files answer = Then (IsQueryAt catalog query files) (λ checked. Only (Ok (Outcome.Translation catalog checked))) answer
+
+-- the schema file first, and then the query file
+abbrev pub IsTranslationOf : List ℕ → List ℕ → List (List ℕ × List ℕ) → Result Outcome Halt → Type 0
+IsTranslationOf schema query files answer = Then (IsCatalogAt schema files) (λ catalog. IsTranslationIn catalog query files) answer
 
 -- the SQL file is read, and then looked at in the catalog
 abbrev pub IsSqlAt : Catalog → List ℕ → List (List ℕ × List ℕ) → Result SqlQuery Halt → Type 0
@@ -95,7 +89,7 @@ IsTableOf schema sql words files answer =
 -- what the words are due
 abbrev pub Owes : Option Asked → List (List ℕ × List ℕ) → Result Outcome Halt → Type 0
 Owes None files answer = answer ≡ Err h.Usage
-Owes (Some (Asked.OfTranslate schema query)) files answer = Then (Only (translate_due schema query files)) (λ checked. Only (Ok (Outcome.Translation checked.0 checked.1))) answer
+Owes (Some (Asked.OfTranslate schema query)) files answer = IsTranslationOf schema query files answer
 Owes (Some (Asked.OfCheck schema)) files answer = Then (IsCatalogAt schema files) (λ catalog. Only (Ok Outcome.Sound)) answer
 Owes (Some (Asked.OfCheckQuery schema query)) files answer = Then (IsCheckedAt schema query files) (λ checked. Only (Ok (Outcome.Weighed checked.weight))) answer
 Owes (Some (Asked.OfEval schema sql tables)) files answer = IsTableOf schema sql tables files answer
@@ -107,13 +101,6 @@ StepGives due (Err (h.Refused refusal)) = due (Err (h.Refused refusal))
 StepGives due (Err h.Usage) = due (Err h.Usage)
 StepGives due (Err h.ReadFault) = ⊤
 StepGives due (Err h.NoMemory) = ⊤
-
--- this halt is due, or it is want of memory or a fault
-abbrev pub IsHaltOf : {A : Type 0} → Result A Halt → Halt → Type 0
-IsHaltOf due (h.Refused refusal) = due ≡ Err (h.Refused refusal)
-IsHaltOf due h.Usage = due ≡ Err h.Usage
-IsHaltOf due h.ReadFault = ⊤
-IsHaltOf due h.NoMemory = ⊤
 
 -- this text is one of the outcome that is due, or this halt is due
 abbrev pub StepWrites : (Result Outcome Halt → Type 0) → Result (List ℕ) Halt → Type 0

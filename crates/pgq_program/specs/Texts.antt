@@ -1,17 +1,19 @@
--- What two texts are due: a graph and a query over it, or the first fault of the two texts. The schema text comes before the query text; of one
--- text its size comes first, then its form, then its names.
-use Rattle.std.specs.Prelude.{◌≡◌, ℕ, nat_le, cond, List, length, Option, None, Some, Result, Ok, Err}
+-- What two texts are due: a catalog and a query in it, or the first fault of the two texts. The schema text comes before the query text; of one
+-- text its size comes first, then its tokens, its grammar and its rules.
+use Rattle.std.specs.Prelude.{ℕ, nat_le, cond, List, length, Result, Ok, Err}
 use Rattle.pgq_base.specs.declared.code.Code.TheVariants.{TextTooLarge}
 use Rattle.pgq_base.specs.declared.refusal.Role.{Role}
 use Rattle.pgq_base.specs.declared.refusal.Role.TheVariants.{Schema, Query}
 use Rattle.pgq_base.specs.declared.refusal.Refusal.{Refusal}
 use Rattle.pgq_base.specs.declared.refusal.Stop.{Stop}
 use Rattle.pgq_base.specs.declared.refusal.Stop.TheVariants as s
-use Rattle.edge_meaning.specs.declared.graph.EdgeGraph.{EdgeGraph}
-use Rattle.edge_meaning.specs.declared.query.EdgeQuery.{EdgeQuery}
-use Rattle.edge_texts.specs.Refusals.{refusal_at, schema_due}
-use Rattle.edge_texts.specs.QueryRefusals.{query_due}
-use Rattle.edge_texts.specs.Queries.{first_fault}
+use Rattle.sql_lexer.specs.Texts.{refusal}
+use Rattle.graph_ast.specs.declared.catalog.Catalog.{Catalog}
+use Rattle.graph_ast.specs.declared.checked.CheckedQuery.{CheckedQuery}
+use Rattle.pgq_program.specs.Chains.{Then, Only}
+use Rattle.pgq_program.specs.Meaning.{Means}
+use Rattle.pgq_program.specs.Queries.{IsQueryRead}
+use Rattle.pgq_program.specs.Schemas.{IsRead}
 
 -- the next step, where there was no fault
 abbrev pub next : {A B E : Type 0} → Result A E → (A → Result B E) → Result B E
@@ -20,32 +22,34 @@ next (Err e) step = Err e
 
 -- a text of more than 1,048,576 bytes is refused, before anything else of it is looked at
 abbrev pub sized : Role → List ℕ → Result (List ℕ) Refusal
-sized role text = cond (nat_le (length text) 1048576) (Ok text) (Err (refusal_at role (record { from = 0; to = 0 }) TextTooLarge))
+sized role text = cond (nat_le (length text) 1048576) (Ok text) (Err (refusal role TextTooLarge (record { from = 0; to = 0 })))
 
-abbrev pub without : {A : Type 0} → Option Refusal → A → Result A Refusal
-without None x = Ok x
-without (Some refusal) x = Err refusal
+-- what a schema text of any size is due
+abbrev pub IsSchemaDue : List ℕ → Result Catalog Refusal → Type 0
+IsSchemaDue schema answer = Then (Only (sized Schema schema)) IsRead answer
 
--- a graph and a query over it
-abbrev pub Checked : Type 0
-Checked = EdgeGraph × EdgeQuery
+-- and a query text in a catalog
+abbrev pub IsQueryDue : Catalog → List ℕ → Result CheckedQuery Refusal → Type 0
+IsQueryDue catalog query answer = Then (Only (sized Query query)) (IsQueryRead catalog) answer
 
--- the query without faults under the graph
-abbrev pub checked : EdgeGraph → EdgeQuery → Result Checked Refusal
-checked graph query = without (first_fault graph query) (graph, query)
+-- a query text, together with its catalog
+abbrev pub IsPairDue : Catalog → List ℕ → Result (Catalog × CheckedQuery) Refusal → Type 0
+IsPairDue catalog query answer = Then (IsQueryDue catalog query) (λ checked. Only (Ok (catalog, checked))) answer
 
-abbrev pub graph_due : List ℕ → Result EdgeGraph Refusal
-graph_due schema = next (sized Schema schema) schema_due
+-- a schema text, and then a query text in its catalog
+abbrev pub IsTextsDue : List ℕ → List ℕ → Result (Catalog × CheckedQuery) Refusal → Type 0
+IsTextsDue schema query answer = Then (IsSchemaDue schema) (λ catalog. IsPairDue catalog query) answer
 
-abbrev pub edge_query_due : List ℕ → Result EdgeQuery Refusal
-edge_query_due query = next (sized Query query) query_due
-
-abbrev pub texts_due : List ℕ → List ℕ → Result Checked Refusal
-texts_due schema query = next (graph_due schema) (λ graph. next (edge_query_due query) (λ asked. checked graph asked))
+-- the text means the query that the texts are due
+pub record MeansDue (due : Result (Catalog × CheckedQuery) Refusal → Type 0) (text : List ℕ) : Type 0 where
+  pub catalog : Catalog
+  pub query : CheckedQuery
+  pub is_due : due (Ok (catalog, query))
+  pub means : Means catalog query text
 
 -- a refusal that is due; want of memory may come at any point
-abbrev pub IsStopOf : {A : Type 0} → Result A Refusal → Stop Refusal → Type 0
-IsStopOf due (s.Refused refusal) = due ≡ Err refusal
+abbrev pub IsStopOf : {A : Type 0} → (Result A Refusal → Type 0) → Stop Refusal → Type 0
+IsStopOf due (s.Refused refused) = due (Err refused)
 IsStopOf due s.NoMemory = Unit {0}
 
 -- the call answers what is due by a relation, unless memory runs out

@@ -17,7 +17,7 @@ mod texts;
 mod top;
 mod words;
 
-pub use laws::one_answer;
+pub use laws::{one_answer, one_query};
 pub use status::Status;
 pub use texts::translate_texts;
 pub use top::pgq;

@@ -13,7 +13,7 @@ const BANK: &str =
 const TRAILS: &str =
     "SELECT * FROM GRAPH_TABLE (bank MATCH\n  TRAIL (a IS account WHERE a.blocked IS TRUE)\n        -[t IS moved WHERE t.cents >= 100000]->{1,4}(b IS account)\n  WHERE a.id <> b.id COLUMNS (a.owner AS a, b.owner AS b)) AS found;";
 
-const PARTIES: &str =
+pub(crate) const PARTIES: &str =
     "CREATE TABLE person (id INTEGER PRIMARY KEY, name VARCHAR(20));\nCREATE TABLE firm (id INTEGER PRIMARY KEY, name VARCHAR(20), city VARCHAR(20));\nCREATE PROPERTY GRAPH h VERTEX TABLES (\n  person LABEL party PROPERTIES (id, name),\n  firm LABEL party PROPERTIES (id, name) LABEL firm PROPERTIES (city));\n";
 
 // Queries without a fault, with their weights.

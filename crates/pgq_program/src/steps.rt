@@ -1,15 +1,13 @@
-ghost use Rattle.std.specs.Prelude.{◌≡◌, ◌≤◌, ◌⊎◌, ◌++◌, IfSome, IfOk, IfErr, IsOkAnd, IsErrOf, None, Some, Err, length, codes, decimal};
-ghost use Rattle.multisets.specs.Bags.{IsIn};
-ghost use Rattle.edge_meaning.specs.Queries.{IsGraph, IsPattern, IsOfPattern};
+ghost use Rattle.std.specs.Prelude.{◌≡◌, ◌≤◌, ◌⊎◌, ◌++◌, IfSome, IfOk, IsErrOf, None, Some, Err, length, codes, decimal};
 ghost use Rattle.graph_ast.specs.Catalogs.{IsValidCatalog};
 ghost use Rattle.pgq_base.specs.Files.{IsAsked};
+ghost use Rattle.query_lowering.specs.Translatable.{IsTranslatable};
 ghost use Rattle.pgq_program.specs.Chains.{Only};
 ghost use Rattle.pgq_program.specs.Commands.Asked.{OfTranslate, OfCheck, OfCheckQuery};
 ghost use Rattle.pgq_program.specs.Commands.{command_of, MayBeUsage};
-ghost use Rattle.pgq_program.specs.Meaning.{Means};
 ghost use Rattle.pgq_program.specs.Queries.{IsQueryRead};
 ghost use Rattle.pgq_program.specs.Schemas.{IsRead};
-ghost use Rattle.pgq_program.specs.Steps.{StepGives, StepWrites, IsHaltOf, HaltCause, text_at, graph_at, query_at, translate_due, Halted, IsCatalogAt, IsQueryAt, IsCheckedAt, Owes};
+ghost use Rattle.pgq_program.specs.Steps.{StepGives, StepWrites, HaltCause, text_at, Halted, IsCatalogAt, IsQueryAt, IsCheckedAt, IsTranslationIn, Owes};
 
 use crate::evaluating::eval;
 use crate::halt::Halt;
@@ -18,8 +16,6 @@ use crate::queries::read_checked;
 use crate::schemas::read_catalog;
 use crate::texts::{TEXT_LIMIT, sql_text, too_large};
 use crate::words::{Command, read_words};
-use edge_meaning::{EdgeGraph, EdgeQuery};
-use edge_texts::{find_fault, read_query, read_schema};
 use graph_ast::{Catalog, CheckedQuery};
 use pgq_base::{List, LoadStop, NoMemory, Role, Shelf, Stop, Text, load};
 use std::alloc::Global;
@@ -44,73 +40,6 @@ pub(crate) fn text_of<F: Shelf>(
         Err(LoadStop::TooLong) => Err(Halt::Refused(too_large(role))),
         Err(LoadStop::NoMemory) => Err(Halt::NoMemory),
     }
-}
-
-fn graph_of<F: Shelf>(alloc: Global, files: &mut F, name: &str) -> Result<EdgeGraph, Halt>
-    requires { IsAsked name.now (F.words files.old) }
-    ensures words { F.words files.new ≡ F.words files.old }
-    ensures files { F.files files.new ≡ F.files files.old }
-    ensures cause { HaltCause (F.faults files.old) (F.faults files.new) result }
-    ensures told { IfSome (F.files files.old) (λ told. StepGives (Only (graph_at name.now told)) result) }
-    ensures graph { IfOk result (λ graph. IsGraph graph) }
-    ensures never { IsErrOf result Halt.Usage → ⊥ }
-{
-    let text = text_of(alloc, files, Role::Schema, name)?;
-    Ok(read_schema(alloc, text.as_slice())?)
-}
-
-fn query_of<F: Shelf>(alloc: Global, files: &mut F, name: &str) -> Result<EdgeQuery, Halt>
-    requires { IsAsked name.now (F.words files.old) }
-    ensures words { F.words files.new ≡ F.words files.old }
-    ensures files { F.files files.new ≡ F.files files.old }
-    ensures cause { HaltCause (F.faults files.old) (F.faults files.new) result }
-    ensures told { IfSome (F.files files.old) (λ told. StepGives (Only (query_at name.now told)) result) }
-    ensures never { IsErrOf result Halt.Usage → ⊥ }
-    ensures pattern { IfOk result (λ query. IsPattern query) }
-    ensures columns { IfOk result (λ query. (column : _) → IsIn column query.columns → IsOfPattern query column) }
-{
-    let text = text_of(alloc, files, Role::Query, name)?;
-    Ok(read_query(alloc, text.as_slice())?)
-}
-
-fn translate<F: Shelf>(
-    alloc: Global,
-    files: &mut F,
-    schema: &str,
-    query: &str,
-) -> Result<List<u8>, Halt>
-    requires schema { IsAsked schema.now (F.words files.old) }
-    requires query { IsAsked query.now (F.words files.old) }
-    ensures words { F.words files.new ≡ F.words files.old }
-    ensures files { F.files files.new ≡ F.files files.old }
-    ensures cause { HaltCause (F.faults files.old) (F.faults files.new) result }
-    ensures never { IsErrOf result Halt.Usage → ⊥ }
-    ensures told { IfSome (F.files files.old) (λ told. StepWrites (Owes (Some (OfTranslate schema.now query.now)) told) result) }
-{
-    translation(alloc, files, schema, query)
-}
-
-fn translation<F: Shelf>(
-    alloc: Global,
-    files: &mut F,
-    schema: &str,
-    query: &str,
-) -> Result<List<u8>, Halt>
-    requires schema { IsAsked schema.now (F.words files.old) }
-    requires query { IsAsked query.now (F.words files.old) }
-    ensures words { F.words files.new ≡ F.words files.old }
-    ensures files { F.files files.new ≡ F.files files.old }
-    ensures cause { HaltCause (F.faults files.old) (F.faults files.new) result }
-    ensures never { IsErrOf result Halt.Usage → ⊥ }
-    ensures means { IfOk result (λ text. IfSome (F.files files.old) (λ told. IsOkAnd (translate_due schema.now query.now told) (λ due. Means due.0 due.1 text))) }
-    ensures halt { IfErr result (λ halt. IfSome (F.files files.old) (λ told. IsHaltOf (translate_due schema.now query.now told) halt)) }
-{
-    let graph = graph_of(alloc, files, schema)?;
-    let query = query_of(alloc, files, query)?;
-    if let Some(refusal) = find_fault(&graph, &query) {
-        return Err(Halt::Refused(refusal));
-    }
-    Ok(sql_text(alloc, &graph, &query)?)
 }
 
 fn catalog_in(alloc: Global, text: &[u8]) -> Result<Catalog, Halt>
@@ -162,6 +91,7 @@ fn query_in(alloc: Global, catalog: &Catalog, text: &[u8]) -> Result<CheckedQuer
     requires small { length text.now ≤ 1048576 }
     requires valid { IsValidCatalog catalog.now }
     ensures due { StepGives (Halted (IsQueryRead catalog.now text.now)) result }
+    ensures translatable { IfOk result (λ query. IsTranslatable catalog.now query) }
     ensures never { IsErrOf result Halt.Usage → ⊥ }
     ensures calm { IsErrOf result Halt.ReadFault → ⊥ }
 {
@@ -184,6 +114,7 @@ fn query_at<F: Shelf>(
     ensures files { F.files files.new ≡ F.files files.old }
     ensures cause { HaltCause (F.faults files.old) (F.faults files.new) result }
     ensures told { IfSome (F.files files.old) (λ told. StepGives (IsQueryAt catalog.now name.now told) result) }
+    ensures translatable { IfOk result (λ query. IsTranslatable catalog.now query) }
     ensures never { IsErrOf result Halt.Usage → ⊥ }
 {
     let text = text_of(alloc, files, Role::Query, name)?;
@@ -207,6 +138,43 @@ fn checked_of<F: Shelf>(
 {
     let catalog = catalog_of(alloc, files, schema)?;
     query_at(alloc, files, &catalog, query)
+}
+
+// The text of the query file's query in a catalog.
+fn translation<F: Shelf>(
+    alloc: Global,
+    files: &mut F,
+    catalog: &Catalog,
+    query: &str,
+) -> Result<List<u8>, Halt>
+    requires asked { IsAsked query.now (F.words files.old) }
+    requires valid { IsValidCatalog catalog.now }
+    ensures words { F.words files.new ≡ F.words files.old }
+    ensures files { F.files files.new ≡ F.files files.old }
+    ensures cause { HaltCause (F.faults files.old) (F.faults files.new) result }
+    ensures never { IsErrOf result Halt.Usage → ⊥ }
+    ensures told { IfSome (F.files files.old) (λ told. StepWrites (IsTranslationIn catalog.now query.now told) result) }
+{
+    let checked = query_at(alloc, files, catalog, query)?;
+    Ok(sql_text(alloc, catalog, &checked)?)
+}
+
+fn translate<F: Shelf>(
+    alloc: Global,
+    files: &mut F,
+    schema: &str,
+    query: &str,
+) -> Result<List<u8>, Halt>
+    requires schema { IsAsked schema.now (F.words files.old) }
+    requires query { IsAsked query.now (F.words files.old) }
+    ensures words { F.words files.new ≡ F.words files.old }
+    ensures files { F.files files.new ≡ F.files files.old }
+    ensures cause { HaltCause (F.faults files.old) (F.faults files.new) result }
+    ensures never { IsErrOf result Halt.Usage → ⊥ }
+    ensures told { IfSome (F.files files.old) (λ told. StepWrites (Owes (Some (OfTranslate schema.now query.now)) told) result) }
+{
+    let catalog = catalog_of(alloc, files, schema)?;
+    translation(alloc, files, &catalog, query)
 }
 
 fn weight_line(alloc: Global, weight: u64) -> Result<List<u8>, NoMemory>

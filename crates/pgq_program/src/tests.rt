@@ -1,6 +1,7 @@
 ghost use Rattle.std.specs.Prelude.{◌≡◌, ◌∷◌, [], IfOk};
 
 use crate::lines::line_of;
+use crate::query_tests::PARTIES;
 use crate::{Status, pgq, translate_texts};
 use pgq_base::{
     Code, Detail, List, MemoryShelf, MemorySink, Name, NoMemory, Refusal, Role, Span, Stop, Text,
@@ -18,19 +19,11 @@ CREATE PROPERTY GRAPH g VERTEX TABLES (person)
                      DESTINATION KEY (b) REFERENCES person (id));
 ";
 
-const REST_OF_SCHEMA: &str = "
-CREATE TABLE knows (id INTEGER PRIMARY KEY, a INTEGER REFERENCES person (id),
-  b INTEGER REFERENCES person (id), since INTEGER);
-CREATE PROPERTY GRAPH g VERTEX TABLES (person)
-  EDGE TABLES (knows SOURCE KEY (a) REFERENCES person (id)
-                     DESTINATION KEY (b) REFERENCES person (id));
-";
-
 const QUERY: &str =
     "SELECT * FROM GRAPH_TABLE (G MATCH (x)-[e]->(y) COLUMNS (x.name AS x, y.name AS y))";
 
 const SQL: &str =
-    "SELECT A0.NAME AS X, A2.NAME AS Y FROM PERSON AS A0, KNOWS AS A1, PERSON AS A2 WHERE A1.A = A0.ID AND A1.B = A2.ID\n";
+    "SELECT A0.NAME AS X, A2.NAME AS Y FROM PERSON AS A0 JOIN KNOWS AS A1 ON A1.A = A0.ID JOIN PERSON AS A2 ON A1.B = A2.ID\n";
 
 const USAGE: &str =
     "usage: pgq translate SCHEMA QUERY, check SCHEMA [QUERY], run SCHEMA QUERY TABLE=FILE ..., eval SCHEMA SQL TABLE=FILE ..., sample N\n";
@@ -143,22 +136,93 @@ pub(crate) fn expect(
 
 const TRANSLATE: [&str; 3] = ["translate", "schema", "query"];
 
-static SPELLINGS: [(&str, &str, &str); 3] = [
+// Each text and its translation.
+static TRANSLATIONS: [(&str, &str, &str); 15] = [
     (SCHEMA, QUERY, SQL),
+    (
+        SCHEMA,
+        "SELECT * FROM GRAPH_TABLE (G MATCH (x)-[e]-(y) COLUMNS (x.name AS x, y.name AS y))",
+        "SELECT A0.NAME AS X, A2.NAME AS Y FROM PERSON AS A0 JOIN KNOWS AS A1 ON TRUE JOIN PERSON AS A2 ON (A1.A = A0.ID AND A1.B = A2.ID OR A1.A = A2.ID AND A1.B = A0.ID)\n",
+    ),
+    (
+        SCHEMA,
+        "SELECT * FROM GRAPH_TABLE (G MATCH (x)-[e]->{0,1}(y) COLUMNS (x.name AS x, y.name AS y))",
+        "SELECT A0.NAME AS X, A0.NAME AS Y FROM PERSON AS A0\nUNION ALL\nSELECT A0.NAME AS X, A2.NAME AS Y FROM PERSON AS A0 JOIN KNOWS AS A1 ON A1.A = A0.ID JOIN PERSON AS A2 ON A1.B = A2.ID\n",
+    ),
+    (
+        SCHEMA,
+        "SELECT * FROM GRAPH_TABLE (G MATCH ALL SHORTEST (x)-[e]->{0,1}(y) COLUMNS (x.name AS x, y.name AS y))",
+        "SELECT A0.NAME AS X, A0.NAME AS Y FROM PERSON AS A0\nUNION ALL\nSELECT A0.NAME AS X, A2.NAME AS Y FROM PERSON AS A0 JOIN KNOWS AS A1 ON A1.A = A0.ID JOIN PERSON AS A2 ON A1.B = A2.ID WHERE NOT EXISTS (SELECT 1 AS C FROM PERSON AS S0 WHERE S0.ID = A0.ID AND S0.ID = A2.ID)\n",
+    ),
+    // No element has the labels.
+    (
+        SCHEMA,
+        "SELECT * FROM GRAPH_TABLE (G MATCH (x IS person & !person) COLUMNS (x.name AS x))",
+        "SELECT CAST(NULL AS VARCHAR(4000)) AS X FROM PERSON AS A0 WHERE FALSE\n",
+    ),
+    // Two paths that share a vertex.
+    (
+        SCHEMA,
+        "SELECT * FROM GRAPH_TABLE (G MATCH (x)-[e]->(y), (y)-[f]->(z) COLUMNS (x.name AS x, y.name AS y))",
+        "SELECT A0.NAME AS X, A2.NAME AS Y FROM PERSON AS A0 JOIN KNOWS AS A1 ON A1.A = A0.ID JOIN PERSON AS A2 ON A1.B = A2.ID JOIN KNOWS AS A3 ON A3.A = A2.ID JOIN PERSON AS A4 ON A3.B = A4.ID\n",
+    ),
+    (
+        PARTIES,
+        "SELECT * FROM GRAPH_TABLE (h MATCH (x IS party) COLUMNS (x.name AS n, x.city AS c))",
+        "SELECT A0.NAME AS N, CAST(NULL AS VARCHAR(4000)) AS C FROM PERSON AS A0\nUNION ALL\nSELECT A0.NAME AS N, A0.CITY AS C FROM FIRM AS A0\n",
+    ),
+    // A key of two columns, and a name in quotes.
+    (
+        "CREATE TABLE \"we\"\"ird\" (p INTEGER, q INTEGER, n VARCHAR(5), PRIMARY KEY (p, q));
+CREATE TABLE link (id INTEGER PRIMARY KEY, p1 INTEGER, q1 INTEGER, p2 INTEGER, q2 INTEGER,
+  FOREIGN KEY (p1, q1) REFERENCES \"we\"\"ird\" (p, q),
+  FOREIGN KEY (p2, q2) REFERENCES \"we\"\"ird\" (p, q));
+CREATE PROPERTY GRAPH w VERTEX TABLES (\"we\"\"ird\" AS v)
+  EDGE TABLES (link SOURCE KEY (p1, q1) REFERENCES v (p, q)
+                    DESTINATION KEY (p2, q2) REFERENCES v (p, q));",
+        "SELECT * FROM GRAPH_TABLE (w MATCH (x)-[e]->(y) COLUMNS (x.n AS a, y.n AS b))",
+        "SELECT A0.N AS A, A2.N AS B FROM \"we\"\"ird\" AS A0 JOIN LINK AS A1 ON A1.P1 = A0.P AND A1.Q1 = A0.Q JOIN \"we\"\"ird\" AS A2 ON A1.P2 = A2.P AND A1.Q2 = A2.Q\n",
+    ),
     // Other columns, types, letters and space; no last semicolon; digits with leading zeros.
     (
         "create table Station(Code integer primary key,city varchar(020),zone INTEGER);create table HOP(no integer primary key,
 src integer references STATION(code),dst INTEGER REFERENCES station ( CODE ),name VARCHAR ( 4000 ));create property graph net
 vertex tables(station)edge tables(hop source key(src)references station(code)destination key(DST)references station(code))",
         "select*from graph_table(NET match(a)-[h]->(b)columns(h.name as via,b.City as to_city,a.code as c,h.dst as d))",
-        "SELECT A1.NAME AS VIA, A2.CITY AS TO_CITY, A0.CODE AS C, A1.DST AS D FROM STATION AS A0, HOP AS A1, STATION AS A2 WHERE A1.SRC = A0.CODE AND A1.DST = A2.CODE\n",
+        "SELECT A1.NAME AS VIA, A2.CITY AS TO_CITY, A0.CODE AS C, A1.DST AS D FROM STATION AS A0 JOIN HOP AS A1 ON A1.SRC = A0.CODE JOIN STATION AS A2 ON A1.DST = A2.CODE\n",
     ),
     // Words that are not reserved are names; space may stand inside the arrow.
     (
         "CREATE TABLE key (integer INTEGER PRIMARY KEY); CREATE TABLE edge (primary_ INTEGER PRIMARY KEY, source INTEGER REFERENCES key (integer),
 _ INTEGER REFERENCES key (integer)); CREATE PROPERTY GRAPH graph VERTEX TABLES (key) EDGE TABLES (edge SOURCE KEY (source) REFERENCES key (integer) DESTINATION KEY (_) REFERENCES key (integer));",
         "SELECT * FROM GRAPH_TABLE (graph MATCH (key) - [ vertex ] - > (a0) COLUMNS (a0.integer AS a1))",
-        "SELECT A2.INTEGER AS A1 FROM KEY AS A0, EDGE AS A1, KEY AS A2 WHERE A1.SOURCE = A0.INTEGER AND A1._ = A2.INTEGER\n",
+        "SELECT A2.INTEGER AS A1 FROM KEY AS A0 JOIN EDGE AS A1 ON A1.SOURCE = A0.INTEGER JOIN KEY AS A2 ON A1._ = A2.INTEGER\n",
+    ),
+    // A self-loop, which shares its vertex.
+    (
+        SCHEMA,
+        "SELECT * FROM GRAPH_TABLE (G MATCH (x)-[e]->(x) COLUMNS (x.id AS i));",
+        "SELECT A0.ID AS I FROM PERSON AS A0 JOIN KNOWS AS A1 ON A1.A = A0.ID AND A1.B = A0.ID\n",
+    ),
+    (
+        SCHEMA,
+        "SELECT * FROM GRAPH_TABLE (G MATCH (x)<-[e]-(y) COLUMNS (x.id AS i))",
+        "SELECT A0.ID AS I FROM PERSON AS A0 JOIN KNOWS AS A1 ON A1.B = A0.ID JOIN PERSON AS A2 ON A1.A = A2.ID\n",
+    ),
+    (
+        SCHEMA,
+        "SELECT * FROM GRAPH_TABLE (G MATCH (x)-[e]->(y) /* c */ COLUMNS (x.\"ID\" AS \"select\"))",
+        "SELECT A0.ID AS \"select\" FROM PERSON AS A0 JOIN KNOWS AS A1 ON A1.A = A0.ID JOIN PERSON AS A2 ON A1.B = A2.ID\n",
+    ),
+    (
+        SCHEMA,
+        "SELECT * FROM GRAPH_TABLE (G MATCH (x), (y) COLUMNS (x.name AS x, y.name AS y))",
+        "SELECT A0.NAME AS X, A1.NAME AS Y FROM PERSON AS A0 JOIN PERSON AS A1 ON TRUE\n",
+    ),
+    (
+        SCHEMA,
+        "SELECT * FROM GRAPH_TABLE (G MATCH (x) WHERE x.age > 25 COLUMNS (x.name AS x))",
+        "SELECT A0.NAME AS X FROM PERSON AS A0 WHERE A0.AGE > 25\n",
     ),
 ];
 
@@ -177,7 +241,7 @@ fn translates_texts(
 #[test]
 fn translates(rt: HostRuntime) -> Result<(), Fail> {
     let alloc = rt.alloc();
-    for (schema, query, sql) in &SPELLINGS {
+    for (schema, query, sql) in &TRANSLATIONS {
         let done = Wanted {
             status: Status::Done,
             out: sql.as_bytes(),
@@ -197,9 +261,44 @@ fn translates(rt: HostRuntime) -> Result<(), Fail> {
     Ok(())
 }
 
-static REFUSALS: [(&str, &str, &str); 16] = [
+// The first fault of the schema text, or else of the query text.
+static REFUSALS: [(&str, &str, &str); 24] = [
     ("", QUERY, "schema:0-0: 201 unexpected\n"),
+    // The schema comes first, and of a text its bytes, its form and its rules.
+    ("CREATE TABLE \"\" (a", QUERY, "schema:13-15: 104 bad name\n"),
+    ("x", "SELECT @", "schema:0-1: 201 unexpected\n"),
+    (
+        "CREATE TABLE t (#",
+        "SELECT @",
+        "schema:16-17: 101 bad byte\n",
+    ),
+    (
+        "CREATE TABLE t (a INTEGER, a INTEGER);",
+        "SELECT @",
+        "schema:27-28: 302 duplicate column\n",
+    ),
+    (
+        "CREATE TABLE t (a INTEGER); CREATE PROPERTY GRAPH g VERTEX TABLES (t);",
+        "",
+        "schema:67-68: 403 no key\n",
+    ),
     (SCHEMA, "", "query:0-0: 201 unexpected\n"),
+    (SCHEMA, "SELECT @", "query:7-8: 101 bad byte\n"),
+    (
+        SCHEMA,
+        "SELECT * FROM GRAPH_TABLE (G MATCH (x)-[e]->(y COLUMNS (x.name))",
+        "query:47-54: 201 unexpected\n",
+    ),
+    (
+        SCHEMA,
+        "SELECT * FROM GRAPH_TABLE (G MATCH (x)-[e]->(y) COLUMNS (x.id AS select))",
+        "query:65-71: 201 unexpected\n",
+    ),
+    (
+        SCHEMA,
+        "SELECT * FROM GRAPH_TABLE (G MATCH (x)-[e]->*(y) COLUMNS (x.name))",
+        "query:44-45: 502 unbounded quantifier\n",
+    ),
     (
         SCHEMA,
         "SELECT * FROM GRAPH_TABLE (H MATCH (x)-[e]->(y) COLUMNS (x.id AS i))",
@@ -207,10 +306,19 @@ static REFUSALS: [(&str, &str, &str); 16] = [
     ),
     (
         SCHEMA,
+        "SELECT * FROM GRAPH_TABLE (H MATCH (x)-[e]->(y) COLUMNS (x.city AS c))",
+        "query:27-28: 601 unknown graph\n",
+    ),
+    (
+        SCHEMA,
+        "SELECT * FROM GRAPH_TABLE (G MATCH (x)-[e]->(y) COLUMNS (z.id AS i))",
+        "query:57-58: 603 unknown variable\n",
+    ),
+    (
+        SCHEMA,
         "SELECT * FROM GRAPH_TABLE (G MATCH (x)-[e]->(y) COLUMNS (x.city AS c))",
         "query:59-63: 608 unknown property\n",
     ),
-    // The properties go by the variable's table; the first unknown one decides, and none is looked at under an unknown graph.
     (
         SCHEMA,
         "SELECT * FROM GRAPH_TABLE (G MATCH (x)-[e]->(y) COLUMNS (e.since AS s, y.since AS t, e.age AS a))",
@@ -218,52 +326,45 @@ static REFUSALS: [(&str, &str, &str); 16] = [
     ),
     (
         SCHEMA,
-        "SELECT * FROM GRAPH_TABLE (H MATCH (x)-[e]->(y) COLUMNS (x.city AS c))",
-        "query:27-28: 601 unknown graph\n",
-    ),
-    (SCHEMA, "SELECT @", "query:0-0: 201 unexpected\n"),
-    (
-        SCHEMA,
-        "SELECT * FROM GRAPH_TABLE (G MATCH (x)-[e]->(y) COLUMNS (x.id AS i));",
-        "query:0-0: 201 unexpected\n",
-    ),
-    (
-        SCHEMA,
-        "SELECT * FROM GRAPH_TABLE (G MATCH (x)-[e]->(x) COLUMNS (x.id AS i))",
-        "query:0-0: 201 unexpected\n",
-    ),
-    (
-        SCHEMA,
-        "SELECT * FROM GRAPH_TABLE (G MATCH (x)-[e]->(y) COLUMNS (z.id AS i))",
-        "query:0-0: 201 unexpected\n",
-    ),
-    (
-        SCHEMA,
         "SELECT * FROM GRAPH_TABLE (G MATCH (x)-[e]->(y) COLUMNS (x.id AS i, y.id AS I))",
+        "query:76-77: 609 duplicate column name\n",
+    ),
+    (
+        SCHEMA,
+        "SELECT * FROM GRAPH_TABLE (G MATCH (x) WHERE x.age = 'a' COLUMNS (x.name))",
+        "query:53-56: 701 classes differ\n",
+    ),
+    (
+        SCHEMA,
+        "SELECT * FROM GRAPH_TABLE (G MATCH (x)-[e]->{1,33}(y) COLUMNS (x.id AS i))",
+        "query:44-50: 803 quantifier too large\n",
+    ),
+    (
+        SCHEMA,
+        "SELECT * FROM GRAPH_TABLE (G MATCH ALL SHORTEST (x)-[e]->{1,32}-[f]->{1,32}(y) COLUMNS (x.id AS i))",
+        "query:29-34: 807 lowering too large\n",
+    ),
+    // Forms that are not served yet, whatever else is wrong with them.
+    (
+        SCHEMA,
+        "SELECT * FROM GRAPH_TABLE (G MATCH (x)-[e]->{1,2}(y) COLUMNS (COUNT(e) AS n))",
         "query:0-0: 201 unexpected\n",
     ),
     (
         SCHEMA,
-        "SELECT * FROM GRAPH_TABLE (G MATCH (x)<-[e]-(y) COLUMNS (x.id AS i))",
+        "SELECT * FROM GRAPH_TABLE (G MATCH (x)-[e]->(y) WHERE SAME(x, y) COLUMNS (x.id))",
         "query:0-0: 201 unexpected\n",
     ),
     (
         SCHEMA,
-        "SELECT * FROM GRAPH_TABLE (G MATCH (x)-[e]->(y) COLUMNS (x.id AS select))",
+        "SELECT * FROM GRAPH_TABLE (H MATCH SHORTEST 2 GROUP (x)-[e]->{1,2}(y) COLUMNS (z.id))",
         "query:0-0: 201 unexpected\n",
     ),
     (
         SCHEMA,
-        "SELECT * FROM GRAPH_TABLE (G MATCH (x)-[e]->(y) /* c */ COLUMNS (x.id AS i))",
-        "query:0-0: 201 unexpected\n",
+        "SELECT * FROM GRAPH_TABLE (G MATCH (x)-[e]->(y) COLUMNS (x.city AS 'c'))",
+        "query:67-70: 201 unexpected\n",
     ),
-    (
-        SCHEMA,
-        "SELECT * FROM GRAPH_TABLE (G MATCH (x)-[e]->(y) COLUMNS (x.\"ID\" AS i))",
-        "query:0-0: 201 unexpected\n",
-    ),
-    // The schema comes first.
-    ("x", "SELECT @", "schema:0-0: 201 unexpected\n"),
 ];
 
 #[test]
@@ -278,38 +379,6 @@ fn refuses(rt: HostRuntime) -> Result<(), Fail> {
             query.as_bytes(),
             SOUND,
             refused(line),
-        )?;
-    }
-    Ok(())
-}
-
-// Each of these stands for `name VARCHAR(20)` in the schema of the examples.
-static NO_COLUMNS: [&str; 8] = [
-    "name VARCHAR(0)",
-    "name VARCHAR(4001)",
-    "name VARCHAR",
-    "name TEXT",
-    "id INTEGER",
-    "since VARCHAR(5)",
-    "table INTEGER",
-    "name VARCHAR(20) NOT NULL",
-];
-
-#[test]
-fn refuses_columns(rt: HostRuntime) -> Result<(), Fail> {
-    let alloc = rt.alloc();
-    for column in &NO_COLUMNS {
-        let schema = format!(in alloc;
-            "CREATE TABLE person (id INTEGER PRIMARY KEY, {column}, age INTEGER);{REST_OF_SCHEMA}"
-        )?;
-        expect(
-            &rt,
-            alloc,
-            &TRANSLATE,
-            schema.as_bytes(),
-            QUERY.as_bytes(),
-            SOUND,
-            refused("schema:0-0: 201 unexpected\n"),
         )?;
     }
     Ok(())
@@ -331,7 +400,7 @@ pub(crate) fn filled(
     Ok(text)
 }
 
-// A schema of so many spaces, which is none, or is too large.
+// A schema of so many spaces, which has no statement, or is too large.
 fn expect_spaces(rt: &impl Abort, alloc: Global, count: usize, line: &str) -> Result<(), NoMemory> {
     let text = filled(alloc, b"", b' ', count, b"")?;
     expect(
@@ -369,7 +438,7 @@ fn expect_name(
 fn expect_longest_name(rt: &impl Abort, alloc: Global) -> Result<(), NoMemory> {
     let front = b"SELECT A0.ID AS ";
     let back =
-        b" FROM PERSON AS A0, KNOWS AS A1, PERSON AS A2 WHERE A1.A = A0.ID AND A1.B = A2.ID\n";
+        b" FROM PERSON AS A0 JOIN KNOWS AS A1 ON A1.A = A0.ID JOIN PERSON AS A2 ON A1.B = A2.ID\n";
     let text = filled(alloc, front, b'N', 128, back)?;
     let done = Wanted {
         status: Status::Done,
@@ -455,15 +524,20 @@ fn shows_details(rt: HostRuntime) -> Result<(), Fail> {
 #[test]
 fn keeps_limits(rt: HostRuntime) -> Result<(), Fail> {
     let alloc = rt.alloc();
-    expect_spaces(&rt, alloc, 1_048_576, "schema:0-0: 201 unexpected\n")?;
+    expect_spaces(
+        &rt,
+        alloc,
+        1_048_576,
+        "schema:1048576-1048576: 201 unexpected\n",
+    )?;
     expect_spaces(&rt, alloc, 1_048_577, "schema:0-0: 107 text too large\n")?;
     expect_longest_name(&rt, alloc)?;
-    expect_name(&rt, alloc, 129, refused("query:0-0: 201 unexpected\n"))?;
+    expect_name(&rt, alloc, 129, refused("query:65-194: 104 bad name\n"))?;
     expect_name(
         &rt,
         alloc,
         1_000_000,
-        refused("query:0-0: 201 unexpected\n"),
+        refused("query:65-1000065: 104 bad name\n"),
     )?;
     expect(
         &rt,
@@ -472,7 +546,7 @@ fn keeps_limits(rt: HostRuntime) -> Result<(), Fail> {
         b"CREATE TABLE \xff (",
         b"",
         SOUND,
-        refused("schema:0-0: 201 unexpected\n"),
+        refused("schema:13-14: 101 bad byte\n"),
     )?;
     Ok(())
 }

@@ -23,9 +23,12 @@ use std::alloc::Global;
 /// `translate SCHEMA QUERY` writes the SQL text that means the query over the tables of the schema,
 /// `check SCHEMA` writes `ok`, `check SCHEMA QUERY` writes `ok, weight W`, W the query's weight in decimal, and
 /// `eval SCHEMA SQL TABLE=FILE ..` the table text of the SQL text over the tables of the files. Words of
-/// another form are `Usage`. Things are looked at in this order: the words; the schema file, by its size and then its form,
-/// under `check` by its tokens, its grammar and its rules; the query file, by its size and then its form and its names, under
-/// `check` by its tokens, its grammar and its rules. The first of them that is at fault gives the answer.
+/// another form are `Usage`. Things are looked at in this order: the words; the schema file, by its size, its tokens, its
+/// grammar and its rules; under `translate` and `check` the query file, by its size, its tokens, its grammar, whether it has a
+/// form that is not served yet, and its rules. Under `eval` the names of the tables come behind the schema file: one that is
+/// unknown or stands twice is `Usage`; then the SQL file, by its size, its tokens, its grammar and its rules; the tables' files
+/// in the order of the words, each by its size and its content; their keys and references; and the number of rows, of which
+/// more than 1,000,000 are refused by `TooManyRows`. The first of them that is at fault gives the answer.
 ///
 /// The whole text is made before its first byte is put on `out`. Under `Done` `out` receives the text and `err`
 /// nothing; under another status `out` receives nothing and `err` one line, unless a sink fails, which is
