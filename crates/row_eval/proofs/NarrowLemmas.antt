@@ -1,7 +1,6 @@
 -- Rows that no way gives fail a later test, so that ways change nothing of what a chain finds.
-use Rattle.std.proofs.Common.{◌≡◌, ℕ, suc, ◌+◌, ◌<◌, cond, ◌&&◌, Bool, true, false, List, [], ◌∷◌, ◌++◌, map, take, length, get_or, refl, sym, ap, subst, ◌∙◌, arith, append_assoc}
+use Rattle.std.proofs.Common.{◌≡◌, ℕ, suc, ◌<◌, cond, Bool, true, false, List, [], ◌∷◌, ◌++◌, map, take, length, get_or, refl, sym, ap, subst, ◌∙◌, arith, append_assoc}
 use Rattle.std.specs.Prelude.{filter, flat_map}
-use Rattle.std.specs.List.{list_all}
 use Rattle.std.proofs.Math.Seq.{get_or-append_seam}
 use Rattle.std.proofs.lemmas.List.{length-append}
 use Rattle.std.proofs.lemmas.List.Folds.{list_all-append}
@@ -10,7 +9,7 @@ use Rattle.row_eval.specs.declared.access.Key.{Key}
 use Rattle.row_eval.specs.declared.frame.Condition.{Condition}
 use Rattle.row_eval.specs.declared.legs.Leg.{Leg}
 use Rattle.row_eval.specs.Access.{ways_agree}
-use Rattle.row_eval.specs.Joins.{passed_on, narrowed, chain_found}
+use Rattle.row_eval.specs.Joins.{passed_on, chain_found}
 use Rattle.row_eval.specs.Slots.{Stack}
 use Rattle.row_eval.specs.Sorted.{leg_ways, AreNarrow}
 use Rattle.row_eval.specs.Stages.{all_kept}

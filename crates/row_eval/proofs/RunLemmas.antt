@@ -1,6 +1,5 @@
 -- How what is found is put out, step by step.
-use Rattle.std.proofs.Common.{◌≡◌, ℕ, suc, ◌+◌, ◌<◌, ◌≤◌, cond, ◌&&◌, Bool, true, false, List, [], ◌∷◌, ◌++◌, map, drop, length, get_or, refl, sym, ap, subst, ◌∙◌, arith, Option, Some, None, append_assoc, eq-eqb}
-use Rattle.std.specs.Prelude.{filter}
+use Rattle.std.proofs.Common.{◌≡◌, ℕ, suc, ◌+◌, ◌<◌, ◌≤◌, cond, ◌&&◌, Bool, true, false, List, [], ◌∷◌, ◌++◌, map, drop, length, get_or, refl, sym, ap, subst, ◌∙◌, arith, Option, Some, None, append_assoc}
 use Rattle.std.specs.Borrow.{Bor}
 use Rattle.std.specs.Option.{option_copied}
 use Rattle.std.specs.List.{list_all, fold}
@@ -26,14 +25,12 @@ use Rattle.row_eval.specs.declared.frame.Condition.{Condition}
 use Rattle.row_eval.specs.declared.frame.Output.{Output}
 use Rattle.row_eval.specs.declared.access.Access.{Access}
 use Rattle.row_eval.specs.declared.access.Tied.{Tied}
-use Rattle.row_eval.specs.declared.access.Pair.{Pair}
-use Rattle.row_eval.specs.declared.index.Index.{Index}
 use Rattle.row_eval.specs.declared.stage.Stage.{Stage}
 use Rattle.row_eval.specs.declared.stage.Stage.TheVariants as v
 use Rattle.row_eval.specs.Stored.{row_values}
 use Rattle.row_eval.specs.Slots.{Stack, slot_value}
 use Rattle.row_eval.specs.Access.{agree, column_value, matches_row, rows_given, rows_among}
-use Rattle.row_eval.specs.Served.{code_from, code_of, row_code, stack_code, is_code, is_null, writes, group_in, IsIndexOf}
+use Rattle.row_eval.specs.Served.{code_from, code_of, row_code, stack_code, is_null, writes}
 use Rattle.row_eval.specs.Stages.{all_kept, found, found_on, visits, visits_on, output_row, Collects}
 use Rattle.row_eval.proofs.StageLemmas.{found-Keep, found-Join, found-Absent, visits-Keep, visits-Join, drop_next}
 

@@ -1,17 +1,17 @@
 -- Ways: ties that hold wherever a condition is True.
-use Rattle.std.proofs.Common.{◌≡◌, ℕ, ◌+◌, ◌<◌, ◌≤◌, cond, ◌&&◌, ◌||◌, Bool, true, false, List, [], ◌∷◌, ◌++◌, map, take, length, get_or, refl, sym, ap, subst, ◌∙◌, arith, Option, Some}
+use Rattle.std.proofs.Common.{◌≡◌, ℕ, ◌+◌, ◌<◌, ◌&&◌, ◌||◌, Bool, true, false, List, [], ◌∷◌, ◌++◌, map, take, length, get_or, refl, sym, ap, subst, ◌∙◌, Some}
 use Rattle.std.specs.List.{list_all, list_any}
 use Rattle.std.proofs.lemmas.Bool.{and_parts}
 use Rattle.std.proofs.lemmas.List.{get_or-take, take_more}
 use Rattle.std.proofs.lemmas.List.Folds.{list_all-append, list_any-append, list_any_more}
 use Rattle.pgq_base.specs.declared.truth.Truth3.{Truth3}
 use Rattle.pgq_base.specs.declared.truth.Truth3.TheVariants as truth
-use Rattle.pgq_base.specs.Instances.{RowValues, value_at}
+use Rattle.pgq_base.specs.Instances.{value_at}
 use Rattle.pgq_base.specs.Kleene.{and3, or3}
 use Rattle.expr_tree.specs.declared.tree.Comparison.TheVariants as op
 use Rattle.expr_tree.specs.declared.tree.Expr.{Expr, Expr-F}
 use Rattle.expr_tree.specs.declared.tree.Expr.TheVariants as v
-use Rattle.expr_tree.specs.Meaning.{value_in, value_step, compare_by, and_all, or_all, truth_of_value, value_of_truth}
+use Rattle.expr_tree.specs.Meaning.{value_in, value_step, compare_by, and_all, or_all, truth_of_value}
 use Rattle.expr_tree.proofs.Folds.{at_layer}
 use Rattle.expr_tree.proofs.FormLemmas.{truth_back}
 use Rattle.sql_algebra.specs.Tuples.{is_true}
@@ -19,10 +19,10 @@ use Rattle.row_eval.specs.declared.access.Key.{Key}
 use Rattle.row_eval.specs.declared.access.Tied.{Tied}
 use Rattle.row_eval.specs.declared.frame.Slot.{Slot}
 use Rattle.row_eval.specs.declared.ties.Side.TheVariants.{Own, Earlier}
-use Rattle.row_eval.specs.Access.{agree, column_value, ties_agree, some_agree, ways_agree}
+use Rattle.row_eval.specs.Access.{agree, column_value}
 use Rattle.row_eval.specs.Slots.{Stack, fitted, slot_value, is_kept}
 use Rattle.row_eval.specs.Ties.{side_of, slots_of, own_of}
-use Rattle.row_eval.specs.Ways.{tied_at, some_at, ways_at, StayTied, AreWays}
+use Rattle.row_eval.specs.Ways.{tied_at, some_at, ways_at, StayTied}
 use Rattle.row_eval.proofs.ChainReach.{both_true}
 use Rattle.row_eval.proofs.EqualityForms.{slots_alone}
 use Rattle.row_eval.proofs.TieLemmas.{own_place, earlier_place, agree_turned}

@@ -1,9 +1,7 @@
 -- Ways by which rows may be looked up: in each stack of which a condition is True, the row at a place has the ties of one of them.
 use Rattle.std.specs.Prelude.{◌≡◌, ℕ, ◌<◌, Bool, true, List, [], take, length, slice_index_or}
-use Rattle.expr_tree.specs.declared.tree.Expr.{Expr}
 use Rattle.row_eval.specs.declared.access.Key.{Key}
 use Rattle.row_eval.specs.declared.access.Tied.{Tied}
-use Rattle.row_eval.specs.declared.frame.Slot.{Slot}
 use Rattle.row_eval.specs.Access.{ties_agree, some_agree, ways_agree}
 use Rattle.row_eval.specs.Slots.{Stack}
 

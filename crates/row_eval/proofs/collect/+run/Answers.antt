@@ -1,4 +1,4 @@
-use Rattle.std.proofs.Common.{rules, Some, None, ◌≡◌, ◌+◌, ◌≤◌, ◌<◌, ◌++◌, ◌∷◌, [], IfOk, length, ℕ, true, false, sym, ap, ◌∙◌, subst, arith, drop, get_or}
+use Rattle.std.proofs.Common.{rules, ◌≡◌, ◌+◌, ◌≤◌, ◌<◌, ◌++◌, ◌∷◌, [], IfOk, length, true, false, sym, ap, ◌∙◌, subst, arith, drop, get_or}
 use Rattle.pgq_base.specs.declared.rows.Row.{Row}
 use Rattle.row_eval.specs.declared.stage.Stage.TheFolds.{the_lemmas}
 use Rattle.row_eval.specs.Slots.{lent_rows}

@@ -1,4 +1,4 @@
-use Rattle.std.proofs.Common.{◌<◌, length, arith, sym, subst, ◌∙◌, ap}
+use Rattle.std.proofs.Common.{◌<◌, length, arith, sym, subst}
 use Rattle.row_eval.specs.Slots.{lent_rows}
 use Rattle.row_eval.specs.Served.{AreGroupsOf, IsGroupsOf}
 use Rattle.row_eval.proofs.KeyLemmas.{groups_more}

@@ -1,4 +1,4 @@
-use Rattle.std.proofs.Common.{◌≡◌, ◌<◌, ◌++◌, ◌∷◌, [], cond, take, get_or, length, arith, sym, ap, ◌∙◌}
+use Rattle.std.proofs.Common.{◌<◌, ◌++◌, ◌∷◌, [], cond, take, length, arith, sym, ap, ◌∙◌}
 use Rattle.row_eval.specs.Slots.{lent_rows}
 use Rattle.row_eval.specs.Served.{places_from, is_code, row_code}
 use Rattle.row_eval.proofs.IndexLemmas.{places_more, lent_at}

@@ -1,4 +1,4 @@
-use Rattle.std.proofs.Common.{◌≡◌, ◌<◌, length, arith, sym, ap, subst, ◌∙◌}
+use Rattle.std.proofs.Common.{◌<◌, length, arith, sym, ap, subst, ◌∙◌}
 use Rattle.row_eval.specs.declared.access.Key.{Key}
 use Rattle.row_eval.specs.Slots.{lent_rows}
 use Rattle.row_eval.specs.Served.{IsGroupsOf, stack_code, row_code, shares_code, places_from, merge}

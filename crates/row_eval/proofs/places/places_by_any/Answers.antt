@@ -1,4 +1,4 @@
-use Rattle.std.proofs.Common.{◌≡◌, ◌<◌, length, arith}
+use Rattle.std.proofs.Common.{arith}
 use Rattle.row_eval.specs.Slots.{lent_rows}
 use Rattle.row_eval.proofs.KeyLemmas.{groups_long}
 use Rattle.row_eval.proofs.places.places_by_any.Goals as goal

@@ -1,4 +1,4 @@
-use Rattle.std.proofs.Common.{◌+◌, ◌≤◌, length, sym, ap, subst, ◌∙◌}
+use Rattle.std.proofs.Common.{◌+◌, ◌≤◌, length, sym, ap, subst}
 use Rattle.row_eval.specs.Levels.{level_in}
 use Rattle.row_eval.specs.Scopes.{placed}
 use Rattle.row_eval.proofs.SortLemmas.{resolved_level, legs_alike, adds_one}
