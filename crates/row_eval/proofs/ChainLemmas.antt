@@ -8,7 +8,7 @@ use Rattle.row_eval.specs.declared.legs.Leg.{Leg}
 use Rattle.row_eval.specs.declared.frame.Condition.{Condition}
 use Rattle.row_eval.specs.Slots.{Stack, is_kept}
 use Rattle.row_eval.specs.Stages.{all_kept}
-use Rattle.row_eval.specs.Joins.{passed_on, chain_found}
+use Rattle.row_eval.specs.Joins.{passed_on}
 use Rattle.row_eval.proofs.PoppedLemmas.{passed_same}
 use Rattle.row_eval.proofs.Staged.{Level, staged, choices, kept, all_tests, Decided, staged_is}
 
@@ -43,17 +43,22 @@ abbrev pub levels_of : InstanceRows → List Leg → List (Level condition_holds
 levels_of instance [] = []
 levels_of instance (leg ∷ legs) = record { rows = rows_at instance leg.table; tests = leg.tests } ∷ levels_of instance legs
 
-pub chain_is_chained : (instance : InstanceRows) (legs : List Leg) (end : Stack → List Stack) (s : Stack) → chain_found instance legs end s
+-- what a chain finds, whatever ways its legs have
+abbrev pub chain_plain : InstanceRows → List Leg → (Stack → List Stack) → Stack → List Stack
+chain_plain instance [] end stack = end stack
+chain_plain instance (leg ∷ legs) end stack = passed_on (chain_plain instance legs end) leg.tests stack (rows_at instance leg.table)
+
+pub chain_is_chained : (instance : InstanceRows) (legs : List Leg) (end : Stack → List Stack) (s : Stack) → chain_plain instance legs end s
     ≡ chained (levels_of instance legs) end s
 chain_is_chained instance [] end s = refl
 chain_is_chained instance (leg ∷ legs) end s =
-    passed_same (chain_found instance legs end) (chained (levels_of instance legs) end) leg.tests s (λ row. chain_is_chained instance legs end (s ++ row ∷ []))
+    passed_same (chain_plain instance legs end) (chained (levels_of instance legs) end) leg.tests s (λ row. chain_is_chained instance legs end (s ++ row ∷ []))
     (rows_at instance leg.table)
 
 -- A chain of joins finds the choices of one row from each table for which all tests are True, in order, each followed by the end.
 pub chain_means : (instance : InstanceRows) (legs : List Leg) (end : Stack → List Stack) (depth : ℕ) (s : Stack) → length s ≡ depth
     → Decided condition_holds depth (levels_of instance legs)
-    → chain_found instance legs end s
+    → chain_plain instance legs end s
     ≡ flat_map end (filter (kept condition_holds (all_tests condition_holds (levels_of instance legs)))
     (map (λ rest. s ++ rest) (choices condition_holds (map (λ (l : Level condition_holds). l.rows) (levels_of instance legs)))))
 chain_means instance legs end depth s long decided =

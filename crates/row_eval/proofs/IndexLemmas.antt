@@ -1,10 +1,14 @@
 -- The places of rows that pass a test.
-use Rattle.std.proofs.Common.{◌≡◌, ℕ, suc, zero, ◌+◌, ◌<◌, ◌≤◌, cond, Bool, true, false, List, [], ◌∷◌, ◌++◌, map, take, length, get_or, refl, sym, ap, subst, ◌∙◌, arith, append_assoc}
+use Rattle.std.proofs.Common.{◌≡◌, ℕ, suc, zero, ◌+◌, ◌<◌, ◌≤◌, cond, Bool, true, false, ◌||◌, List, [], ◌∷◌, ◌++◌, map, take, length, get_or, refl, sym, ap, subst, ◌∙◌, arith, append_assoc}
 use mathlib.Core.Bool.{true≢false}
-use Rattle.std.specs.Prelude.{filter}
+use Rattle.std.specs.Prelude.{filter, nat_lt}
+use Rattle.std.proofs.lemmas.Bool.Decides.{nat_tests}
 use Rattle.std.proofs.lemmas.List.{take_more}
 use Rattle.pgq_base.specs.Instances.{RowValues, TableRows}
-use Rattle.row_eval.specs.Served.{places_from}
+use Rattle.std.specs.Borrow.{Bor}
+use Rattle.pgq_base.specs.declared.rows.Row.{Row}
+use Rattle.row_eval.specs.Slots.{lent_rows}
+use Rattle.row_eval.specs.Served.{places_from, put_before, merge}
 
 get_or_behind : (before : TableRows) (x : RowValues) (xs : TableRows) → get_or (before ++ x ∷ xs) (length before) [] ≡ x
 get_or_behind [] x xs = refl
@@ -88,3 +92,72 @@ filter_within {X} p q wider (x ∷ xs) = go (p x) (q x) refl refl (filter_within
     go false true e f h = ap (λ t. cond t (x ∷ filter p (filter q xs)) (filter p (filter q xs))) e ∙ h
     go true false e f h = absurd (true≢false (sym (wider x e) ∙ f))
     go false false e f h = h
+
+-- the row that is lent at a place
+pub lent_at : (lent : List (Bor Row)) (i : ℕ) (one : Bor Row) → i < length lent → one ≡ get_or lent i one
+    → (i < length (lent_rows lent)) × (one.now.values ≡ get_or (lent_rows lent) i [])
+lent_at [] i one h is = absurd (omega arith)
+lent_at (b ∷ lent) zero one h is = (omega arith, ap (λ (x : Bor Row). x.now.values) is)
+lent_at (b ∷ lent) (suc i) one h is = let later = lent_at lent i one (omega (arith, h)) is in let long = later.0 in (omega (arith, long), later.1)
+
+-- ---- places by one test or another
+
+lt_true : (x y : ℕ) → x < y → nat_lt x y ≡ true
+lt_true x y h = grind (arith, nat_tests)
+
+lt_false : (x y : ℕ) → y ≤ x → nat_lt x y ≡ false
+lt_false x y h = grind (arith, nat_tests)
+
+abbrev IsAbove : ℕ → List ℕ → Type 0
+IsAbove x [] = Unit {0}
+IsAbove x (y ∷ ys) = x < y
+
+places_above : (test : RowValues → Bool) (x n : ℕ) (rows : TableRows) → x < n → IsAbove x (places_from test n rows)
+places_above test x n [] h = tt
+places_above test x n (row ∷ rows) h = by (test row) (places_above test x (suc n) rows (omega (arith, h)))
+  where
+    by : (b : Bool) → IsAbove x (places_from test (suc n) rows) → IsAbove x (cond b (n ∷ places_from test (suc n) rows) (places_from test (suc n) rows))
+    by true k = h
+    by false k = k
+
+merge_before : (x : ℕ) (xs ys : List ℕ) → IsAbove x ys → merge (x ∷ xs) ys ≡ x ∷ merge xs ys
+merge_before x xs [] h = refl
+merge_before x xs (y ∷ ys) h =
+    ap (λ b. cond b (x ∷ merge xs (y ∷ ys)) (cond (nat_lt y x) (y ∷ put_before x (merge xs) ys) (put_before x (merge xs) ys))) (lt_true x y h)
+
+merge_after : (y : ℕ) (xs ys : List ℕ) → IsAbove y xs → merge xs (y ∷ ys) ≡ y ∷ merge xs ys
+merge_after y [] ys h = refl
+merge_after y (x ∷ xs) ys h =
+    ap (λ b. cond b (x ∷ merge xs (y ∷ ys)) (cond (nat_lt y x) (y ∷ put_before x (merge xs) ys) (put_before x (merge xs) ys))) (lt_false x y (omega (arith, h)))
+    ∙ ap (λ b. cond b (y ∷ put_before x (merge xs) ys) (put_before x (merge xs) ys)) (lt_true y x h)
+
+merge_both : (x : ℕ) (xs ys : List ℕ) → IsAbove x ys → merge (x ∷ xs) (x ∷ ys) ≡ x ∷ merge xs ys
+merge_both x xs ys h =
+    ap (λ b. cond b (x ∷ merge xs (x ∷ ys)) (cond (nat_lt x x) (x ∷ put_before x (merge xs) ys) (put_before x (merge xs) ys))) (lt_false x x (omega arith))
+    ∙ ap (λ b. cond b (x ∷ put_before x (merge xs) ys) (put_before x (merge xs) ys)) (lt_false x x (omega arith))
+    ∙ merge_before x xs ys h
+
+module _ (at : ℕ) (xs ys all : List ℕ) (above : IsAbove at xs) (other : IsAbove at ys) where
+  either_place : (b c : Bool) → merge xs ys ≡ all → merge (cond b (at ∷ xs) xs) (cond c (at ∷ ys) ys) ≡ cond (b || c) (at ∷ all) all
+  either_place true true e = merge_both at xs ys other ∙ ap (λ l. at ∷ l) e
+  either_place true false e = merge_before at xs ys other ∙ ap (λ l. at ∷ l) e
+  either_place false true e = merge_after at xs ys above ∙ ap (λ l. at ∷ l) e
+  either_place false false e = e
+
+-- the places by either test, in order
+pub merge_places : (p q : RowValues → Bool) (at : ℕ) (rows : TableRows) → merge (places_from p at rows) (places_from q at rows) ≡ places_from (λ row. p row || q row) at rows
+merge_places p q at [] = refl
+merge_places p q at (row ∷ rows) =
+    either_place at (places_from p (suc at) rows) (places_from q (suc at) rows) (places_from (λ row. p row || q row) (suc at) rows)
+    (places_above p at (suc at) rows (omega arith)) (places_above q at (suc at) rows (omega arith)) (p row) (q row) (merge_places p q (suc at) rows)
+
+pub places_same : (p q : RowValues → Bool) → ((row : RowValues) → p row ≡ q row) → (at : ℕ) (rows : TableRows) → places_from p at rows ≡ places_from q at rows
+places_same p q same at [] = refl
+places_same p q same at (row ∷ rows) =
+    ap (λ b. cond b (at ∷ places_from p (suc at) rows) (places_from p (suc at) rows)) (same row)
+    ∙ ap (λ l. cond (q row) (at ∷ l) l) (places_same p q same (suc at) rows)
+
+pub places_none : (p : RowValues → Bool) → ((row : RowValues) → p row ≡ false) → (at : ℕ) (rows : TableRows) → places_from p at rows ≡ []
+places_none p none at [] = refl
+places_none p none at (row ∷ rows) =
+    ap (λ b. cond b (at ∷ places_from p (suc at) rows) (places_from p (suc at) rows)) (none row) ∙ places_none p none (suc at) rows

@@ -7,15 +7,16 @@ use Rattle.std.specs.Prelude.{filter, flat_map, slice_get}
 use Rattle.pgq_base.specs.Instances.{RowValues, TableRows, InstanceRows, rows_at}
 use Rattle.row_eval.specs.declared.frame.Condition.{Condition}
 use Rattle.row_eval.specs.declared.access.Access.{Access}
+use Rattle.row_eval.specs.declared.access.Key.{Key}
 use Rattle.row_eval.specs.declared.index.Index.{Index}
 use Rattle.row_eval.specs.declared.stage.Stage.{Stage}
 use Rattle.row_eval.specs.declared.stage.Stage.TheVariants as v
 use Rattle.row_eval.specs.Slots.{Stack, is_kept}
-use Rattle.row_eval.specs.Access.{matches_row}
+use Rattle.row_eval.specs.Access.{matches_row, ways_agree}
 use Rattle.row_eval.specs.Served.{AllServed, IsIndexOf}
-use Rattle.row_eval.specs.Stages.{all_kept, found, accesses}
+use Rattle.row_eval.specs.Stages.{all_kept, found, found_on, accesses}
 use Rattle.row_eval.specs.Ties.{are_tied, slots_of, tie_holds, ties_hold}
-use Rattle.row_eval.specs.Joins.{passed_on, tied_rows, visits_passed}
+use Rattle.row_eval.specs.Joins.{passed_on, narrowed, tied_rows, visits_passed}
 use Rattle.row_eval.proofs.StageLemmas.{found-Keep, found-Join, visits-Keep, visits-Join, accesses-Keep, accesses-Join}
 
 no_more : (tied kept : Bool) → cond tied kept true ≡ false → kept ≡ false
@@ -42,17 +43,44 @@ flat_same {X} p f g none same (x ∷ xs) = go (p x) refl (flat_same p f g none s
     go true e h = ap (λ l. l ++ flat_map f (filter p xs)) (same x) ∙ ap (λ l. g x ++ l) h
     go false e h = h ∙ ap (λ l. l ++ flat_map g xs) (sym (none x e))
 
-pub joined_found : (instance : InstanceRows) (e kept rest : Stage) (access : Access) (tests : List Condition) (table place : ℕ) (s : Stack)
+-- ---- the rows of a join
+
+filter_alike : {X : Type 0} (p q : X → Bool) → ((x : X) → p x ≡ q x) → (xs : List X) → filter p xs ≡ filter q xs
+filter_alike p q same [] = refl
+filter_alike p q same (x ∷ xs) = ap (λ b. cond b (x ∷ filter p xs) (filter p xs)) (same x) ∙ ap (λ l. cond (q x) (x ∷ l) l) (filter_alike p q same xs)
+
+filter_both : {X : Type 0} (p q : X → Bool) (xs : List X) → filter (λ x. p x && q x) xs ≡ filter p (filter q xs)
+filter_both p q [] = refl
+filter_both {X} p q (x ∷ xs) = by (p x) (q x) refl (filter_both p q xs)
+  where
+    by : (b c : Bool) → p x ≡ b → filter (λ x. p x && q x) xs ≡ filter p (filter q xs)
+        → cond (b && c) (x ∷ filter (λ x. p x && q x) xs) (filter (λ x. p x && q x) xs) ≡ filter p (cond c (x ∷ filter q xs) (filter q xs))
+    by true true e h = ap (λ l. x ∷ l) h ∙ ap (λ t. cond t (x ∷ filter p (filter q xs)) (filter p (filter q xs))) (sym e)
+    by true false e h = h
+    by false true e h = h ∙ ap (λ t. cond t (x ∷ filter p (filter q xs)) (filter p (filter q xs))) (sym e)
+    by false false e h = h
+
+-- the rows of the access are those of the ways that the tests tie
+given_rows : (instance : InstanceRows) (access : Access) (tests : List Condition) (ways : List Key) (table place : ℕ) (s : Stack) → access.table ≡ table
+    → ((row : RowValues) → matches_row access s row ≡ (ties_hold place s row tests && ways_agree s row ways))
+    → rows_given instance access s ≡ filter (λ row. ties_hold place s row tests) (narrowed ways s (rows_at instance table))
+given_rows instance access tests ways table place s at matches =
+    filter_alike (matches_row access s) (λ row. ties_hold place s row tests && ways_agree s row ways) matches (rows_at instance access.table)
+    ∙ filter_both (λ row. ties_hold place s row tests) (λ row. ways_agree s row ways) (rows_at instance access.table)
+    ∙ ap (λ t. filter (λ row. ties_hold place s row tests) (narrowed ways s (rows_at instance t))) at
+
+pub joined_found : (instance : InstanceRows) (e kept rest : Stage) (access : Access) (tests : List Condition) (ways : List Key) (table place : ℕ) (s : Stack)
     → e ≡ v.Join access kept → kept ≡ v.Keep tests rest → access.table ≡ table
-    → ((row : RowValues) → matches_row access s row ≡ ties_hold place s row tests)
-    → found instance e s ≡ passed_on (found instance rest) tests s (rows_at instance table)
-joined_found instance e kept rest access tests table place s is then at matches =
+    → ((row : RowValues) → matches_row access s row ≡ (ties_hold place s row tests && ways_agree s row ways))
+    → found instance e s ≡ passed_on (found instance rest) tests s (narrowed ways s (rows_at instance table))
+joined_found instance e kept rest access tests ways table place s is then at matches =
     found-Join instance s e access kept is
-    ∙ flat_same (matches_row access s) (λ row. found instance kept (s ++ row ∷ [])) (λ row. cond (all_kept tests (s ++ row ∷ [])) (found instance rest (s ++ row ∷ [])) [])
-    (λ row no. ap (λ b. cond b (found instance rest (s ++ row ∷ [])) []) (weaker place s row tests (sym (matches row) ∙ no)))
+    ∙ ap (λ rows. found_on (found instance kept) s rows) (given_rows instance access tests ways table place s at matches)
+    ∙ flat_same (λ row. ties_hold place s row tests) (λ row. found instance kept (s ++ row ∷ []))
+    (λ row. cond (all_kept tests (s ++ row ∷ [])) (found instance rest (s ++ row ∷ [])) [])
+    (λ row no. ap (λ b. cond b (found instance rest (s ++ row ∷ [])) []) (weaker place s row tests no))
     (λ row. found-Keep instance (s ++ row ∷ []) kept tests rest then)
-    (rows_at instance access.table)
-    ∙ ap (λ t. passed_on (found instance rest) tests s (rows_at instance t)) at
+    (narrowed ways s (rows_at instance table))
 
 get_before : {X : Type 0} (xs : List X) (x y : X) (i : ℕ) → slice_get xs i ≡ Some y → slice_get (xs ++ x ∷ []) i ≡ Some y
 get_before [] x y zero h = absurd cc
@@ -72,7 +100,7 @@ still_served instance indexes new (a ∷ others) h =
 
 pub joined_served : (instance : InstanceRows) (e kept rest : Stage) (access : Access) (tests : List Condition) (table : ℕ) (indexes more : List Index) (new : Index)
     → e ≡ v.Join access kept → kept ≡ v.Keep tests rest → access.table ≡ table → access.index ≡ length indexes → table < length instance
-    → more ≡ indexes ++ new ∷ [] → IsIndexOf access.tied (rows_at instance table) new
+    → more ≡ indexes ++ new ∷ [] → IsIndexOf access.keys (rows_at instance table) new
     → AllServed instance indexes (accesses rest) → AllServed instance more (accesses e)
 joined_served instance e kept rest access tests table indexes more new is then at number within grown right others =
     subst (λ l. AllServed instance l (accesses e)) (sym grown)
@@ -81,33 +109,28 @@ joined_served instance e kept rest access tests table indexes more new is then a
         table = subst (λ t. t < length instance) (sym at) within;
         index = new;
         at = ap (slice_get (indexes ++ new ∷ [])) number ∙ get_last indexes new;
-        right = subst (λ t. IsIndexOf access.tied (rows_at instance t) new) (sym at) right;
+        right = subst (λ t. IsIndexOf access.keys (rows_at instance t) new) (sym at) right;
       },
       still_served instance indexes new (accesses rest) others,
     ))
 
 -- ---- the reads of a join
 
-filter_alike : {X : Type 0} (p q : X → Bool) → ((x : X) → p x ≡ q x) → (xs : List X) → filter p xs ≡ filter q xs
-filter_alike p q same [] = refl
-filter_alike p q same (x ∷ xs) = ap (λ b. cond b (x ∷ filter p xs) (filter p xs)) (same x) ∙ ap (λ l. cond (q x) (x ∷ l) l) (filter_alike p q same xs)
-
 map_alike : {X Y : Type 0} (f g : X → Y) → ((x : X) → f x ≡ g x) → (xs : List X) → map f xs ≡ map g xs
 map_alike f g same [] = refl
 map_alike f g same (x ∷ xs) = ap (λ y. y ∷ map f xs) (same x) ∙ ap (λ l. g x ∷ l) (map_alike f g same xs)
 
-pub joined_visits : (instance : InstanceRows) (e kept rest : Stage) (access : Access) (tests : List Condition) (table place : ℕ) (s : Stack)
+pub joined_visits : (instance : InstanceRows) (e kept rest : Stage) (access : Access) (tests : List Condition) (ways : List Key) (table place : ℕ) (s : Stack)
     → e ≡ v.Join access kept → kept ≡ v.Keep tests rest → access.table ≡ table → length s ≡ place
-    → ((row : RowValues) → matches_row access s row ≡ ties_hold place s row tests)
-    → visits instance e s ≡ visits_passed (visits instance rest) tests s (tied_rows tests s (rows_at instance table))
-joined_visits instance e kept rest access tests table place s is then at long matches =
+    → ((row : RowValues) → matches_row access s row ≡ (ties_hold place s row tests && ways_agree s row ways))
+    → visits instance e s ≡ visits_passed (visits instance rest) tests s (tied_rows tests s (narrowed ways s (rows_at instance table)))
+joined_visits instance e kept rest access tests ways table place s is then at long matches =
     visits-Join instance s e access kept is
     ∙ ap sum (map_alike (λ row. 1 + visits instance kept (s ++ row ∷ [])) (λ row. 1 + cond (all_kept tests (s ++ row ∷ [])) (visits instance rest (s ++ row ∷ [])) 0)
     (λ row. ap (λ n. 1 + n) (visits-Keep instance (s ++ row ∷ []) kept tests rest then)) (rows_given instance access s))
-    ∙ ap (λ rows. visits_passed (visits instance rest) tests s rows)
-    (filter_alike (matches_row access s) (λ row. ties_hold (length s) s row tests) (λ row. matches row ∙ ap (λ n. ties_hold n s row tests) (sym long))
-    (rows_at instance access.table)
-    ∙ ap (λ t. tied_rows tests s (rows_at instance t)) at)
+    ∙ ap (visits_passed (visits instance rest) tests s)
+    (given_rows instance access tests ways table place s at matches
+    ∙ ap (λ n. filter (λ row. ties_hold n s row tests) (narrowed ways s (rows_at instance table))) (sym long))
 
 pub visits_alike : (f g : Stack → ℕ) (tests : List Condition) (s : Stack) → ((row : RowValues) → f (s ++ row ∷ []) ≡ g (s ++ row ∷ [])) → (rows : TableRows)
     → visits_passed f tests s rows ≡ visits_passed g tests s rows

@@ -34,10 +34,11 @@ use Rattle.row_eval.specs.Stages.{all_kept}
 use Rattle.row_eval.specs.Joins.{chain_found}
 use Rattle.row_eval.specs.Levels.{level_in}
 use Rattle.row_eval.specs.Scopes.{Placed, own_places, reach_under, AreBelow, tuple_of, leaf_expr_of}
-use Rattle.row_eval.specs.Sorted.{each_passes, all_pass, AreDecidedAt, IsSorted}
+use Rattle.row_eval.specs.Sorted.{each_passes, all_pass, AreDecidedAt, IsSorted, leg_ways, AreNarrow}
 use Rattle.row_eval.specs.Typed.{MeetsTypes, IsTyped}
 use Rattle.row_eval.specs.Plans.{items_in, plain_at, conditions_in, is_absent_at, all_absent, kept_by}
-use Rattle.row_eval.proofs.ChainLemmas.{condition_holds, levels_of, chain_means}
+use Rattle.row_eval.proofs.ChainLemmas.{condition_holds, chain_plain, levels_of, chain_means}
+use Rattle.row_eval.proofs.NarrowLemmas.{narrowed_chain}
 use Rattle.row_eval.proofs.ChainReach.{aliases, Differ, members_sound, both_true}
 use Rattle.row_eval.proofs.LevelLemmas.{decided}
 use Rattle.row_eval.proofs.ScopeLemmas.{resolved_value}
@@ -151,10 +152,10 @@ module _ (instance : InstanceRows) (first : List Condition) (legs : List Leg) (t
       and_assoc true y z = refl
       and_assoc false y z = refl
 
-  pub chain_filter : IsSorted (length s) first legs → length s + length legs < 2 ^ 64 - 1 → map (λ (leg : Leg). rows_at instance leg.table) legs ≡ tables
+  plain_filter : IsSorted (length s) first legs → length s + length legs < 2 ^ 64 - 1 → map (λ (leg : Leg). rows_at instance leg.table) legs ≡ tables
       → AllByRecursion (λ t. f t ≡ cond (a t) (t ∷ []) []) stacks
-      → cond (all_kept first s) (chain_found instance legs f s) [] ≡ filter (λ t. all_pass (is_kept t) first legs && a t) stacks
-  chain_filter sorted small same each_end =
+      → cond (all_kept first s) (chain_plain instance legs f s) [] ≡ filter (λ t. all_pass (is_kept t) first legs && a t) stacks
+  plain_filter sorted small same each_end =
       ap (λ x. cond (all_kept first s) x [])
       (chain_means instance legs f (length s) s refl (legs_decided instance legs (length s) small sorted.legs)
       ∙ ap (λ x. flat_map f (filter (kept condition_holds (all_tests condition_holds (levels_of instance legs))) (map (λ rest. s ++ rest) (choices condition_holds x))))
@@ -170,6 +171,22 @@ module _ (instance : InstanceRows) (first : List Condition) (legs : List Leg) (t
       everywhere : {P : Stack → Type 0} → ((t : Stack) → P t) → (ts : List Stack) → AllByRecursion P ts
       everywhere h [] = tt
       everywhere h (t ∷ ts) = (h t, everywhere h ts)
+
+  pub chain_filter : IsSorted (length s) first legs → ((t : Stack) → all_pass (is_kept t) first legs ≡ true → AreNarrow t (length s) (leg_ways legs))
+      → length s + length legs < 2 ^ 64 - 1 → map (λ (leg : Leg). rows_at instance leg.table) legs ≡ tables
+      → AllByRecursion (λ t. f t ≡ cond (a t) (t ∷ []) []) stacks
+      → cond (all_kept first s) (chain_found instance legs f s) [] ≡ filter (λ t. all_pass (is_kept t) first legs && a t) stacks
+  chain_filter sorted narrow small same each_end =
+      under (all_kept first s) (chain_found instance legs f s) (chain_plain instance legs f s)
+      (λ here. narrowed_chain instance f legs (length s) s refl (legs_decided instance legs (length s) small sorted.legs)
+      (λ u h. narrow (s ++ u)
+      (both_true (each_passes (is_kept (s ++ u)) first) (list_all (λ (leg : Leg). each_passes (is_kept (s ++ u)) leg.tests) legs)
+      (kept_decided s u first (omega (arith, small)) sorted.first ∙ here) (sym (tests_pass instance (s ++ u) legs) ∙ h))))
+      ∙ plain_filter sorted small same each_end
+    where
+      under : (b : Bool) (x y : List Stack) → (b ≡ true → x ≡ y) → cond b x [] ≡ cond b y []
+      under true x y h = h refl
+      under false x y h = refl
 
 -- ---- lengths
 
@@ -377,18 +394,20 @@ module _ (catalog : Catalog) (instance : InstanceRows) (meets : MeetsTypes catal
         each_longer (rest ∷ rests) h = (one_long rest h.0, each_longer rests h.1)
 
     pub select_found : (first : List Condition) (legs : List Leg) (f : Stack → List Stack) → length outer + length legs < 2 ^ 64 - 1 → IsSorted (length outer) first legs
+        → ((t : Stack) → all_pass (is_kept t) first legs ≡ true → AreNarrow t (length outer) (leg_ways legs))
         → map (λ (leg : Leg). rows_at instance leg.table) legs ≡ tables_of catalog instance select.from
         → ((test : Expr Slot → Bool) → all_pass test first legs ≡ list_all (λ e. test (mapped (leaf_expr_of catalog whole) e)) (conditions_in select.from select.conjuncts))
         → ((t : Stack) → length t ≡ length whole → IsTyped catalog (tuple_of whole t) → f t ≡ cond (all_absent catalog instance select.conjuncts (tuple_of whole t)) (t ∷ []) [])
         → map (tuple_of whole) (cond (all_kept first stack) (chain_found instance legs f stack) []) ≡ kept_by catalog instance select (tuple_of outer stack)
-    select_found first legs f small sorted tables each_condition each_end =
+    select_found first legs f small sorted narrow tables each_condition each_end =
         let H = select_holds catalog (record { columns = select.columns; from = select.from; conjuncts = map (conjunct_holds catalog instance) select.conjuncts }) in
         let parts = sound_parts catalog select (items_in outer) sound in
         let sound_conditions = subst (λ items. list_all (condition_is_sound catalog items) (conditions_in select.from select.conjuncts) ≡ true)
         (sym (reach_items select.from outer)) parts.conditions in
         ap (map (tuple_of whole))
         (chain_filter instance first legs (tables_of catalog instance select.from) stack f (λ t. all_absent catalog instance select.conjuncts (tuple_of whole t))
-        (subst (λ n. IsSorted n first legs) (sym long) sorted) (subst (λ n. n + length legs < 2 ^ 64 - 1) (sym long) small) tables
+        (subst (λ n. IsSorted n first legs) (sym long) sorted) (λ t h. subst (λ n. AreNarrow t n (leg_ways legs)) (sym long) (narrow t h))
+        (subst (λ n. n + length legs < 2 ^ 64 - 1) (sym long) small) tables
         (all_two (λ t. length t ≡ length whole) (λ t. IsTyped catalog (tuple_of whole t))
         (λ t. f t ≡ cond (all_absent catalog instance select.conjuncts (tuple_of whole t)) (t ∷ []) []) each_end found_stacks long_stacks typed_stacks)
         ∙ filter_same (λ t. all_pass (is_kept t) first legs && all_absent catalog instance select.conjuncts (tuple_of whole t)) (λ t. H (tuple_of whole t)) found_stacks

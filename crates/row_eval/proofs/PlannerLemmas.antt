@@ -31,7 +31,7 @@ use Rattle.row_eval.specs.Stages.{all_kept, found, accesses}
 use Rattle.row_eval.specs.Joins.{chain_found}
 use Rattle.row_eval.specs.Served.{AllServed}
 use Rattle.row_eval.specs.Scopes.{Placed, placed, own_places, reach_under, AreBelow, tuple_of}
-use Rattle.row_eval.specs.Sorted.{IsSorted, SortsAll, table_place_of, leg_tables}
+use Rattle.row_eval.specs.Sorted.{IsSorted, IsNarrow, SortsAll, table_place_of, leg_tables}
 use Rattle.row_eval.specs.Typed.{MeetsTypes, IsTyped}
 use Rattle.row_eval.specs.Plans.{items_in, conditions_in, is_absent_at, all_absent, kept_by, IsEndOf, IsPlanOf}
 use Rattle.row_eval.proofs.PlanLemmas.{sound_parts, reach_items, reach_long, select_found}
@@ -127,10 +127,10 @@ pub joins_plan : (catalog : Catalog) (instance : InstanceRows) → MeetsTypes ca
     → (sorted : Sorted) (end joined stage : Stage) → stage ≡ v.Keep sorted.first joined
     → ((s : Stack) → length s ≡ length outer → found instance joined s ≡ chain_found instance sorted.legs.items (found instance end) s)
     → IsEndOf catalog instance select.conjuncts (placed reach) end
-    → length outer + length sorted.legs.items < 2 ^ 64 - 1 → IsSorted (length outer) sorted.first sorted.legs.items
+    → length outer + length sorted.legs.items < 2 ^ 64 - 1 → IsSorted (length outer) sorted.first sorted.legs.items → IsNarrow (length outer) sorted
     → leg_tables sorted.legs.items ≡ map (table_place_of catalog) select.from → SortsAll catalog (placed reach) (conditions_in select.from select.conjuncts) sorted
     → IsPlanOf catalog instance select (placed outer) stage
-joins_plan catalog instance meets select outer reach sound below same sorted end joined stage is join each_end small in_order tables all = λ s long typed.
+joins_plan catalog instance meets select outer reach sound below same sorted end joined stage is join each_end small in_order narrow tables all = λ s long typed.
     let long_outer = long ∙ placed_long outer in
     ap (map (tuple_of (reach_under select.from (placed outer))))
     (found-Keep instance s stage sorted.first joined is ∙ ap (λ x. cond (all_kept sorted.first s) x []) (join s long_outer))
@@ -138,6 +138,7 @@ joins_plan catalog instance meets select outer reach sound below same sorted end
     (subst (λ n. AreBelow n (placed outer)) (sym (placed_long outer)) below) s long typed sorted.first sorted.legs.items (found instance end)
     (subst (λ n. n + length sorted.legs.items < 2 ^ 64 - 1) (sym (placed_long outer)) small)
     (subst (λ n. IsSorted n sorted.first sorted.legs.items) (sym (placed_long outer)) in_order)
+    (subst (λ n. IsNarrow n sorted) (sym (placed_long outer)) narrow)
     (legs_rows catalog instance sorted.legs.items select.from tables)
     (subst (λ r. SortsAll catalog r (conditions_in select.from select.conjuncts) sorted) same all)
     (subst (λ r. IsEndOf catalog instance select.conjuncts r end) same each_end)

@@ -27,6 +27,7 @@ use Rattle.row_eval.specs.Scopes.{Placed, own_places, reach_under, AreBelow, tup
 use Rattle.row_eval.specs.Slots.{Stack, is_kept}
 use Rattle.row_eval.specs.Sorted.{each_passes, AreDecidedAt}
 use Rattle.row_eval.specs.Stages.{all_kept}
+use Rattle.row_eval.specs.Access.{ways_agree}
 use Rattle.row_eval.specs.Ties.{slots_of, ties_hold}
 use Rattle.row_eval.specs.Typed.{MeetsTypes, IsTyped, IsTypedRow}
 use Rattle.row_eval.proofs.BoundLemmas.{kept_means, has_slots, decided_level, passes, kept_passes, legs_pass, ties_pass}
@@ -260,20 +261,22 @@ module _ (catalog : Catalog) (instance : InstanceRows) (meets : MeetsTypes catal
   chain_bounded (item ∷ items) done (leg ∷ legs) before s whole tables h small kept levels sorts =
       let rest = chain_visits instance legs end in
       let ties = λ (row : RowValues). ties_hold (length s) s row leg.tests in
+      let ways = λ (row : RowValues). ways_agree s row leg.ways in
       let rows : rows_at instance leg.table ≡ rows_of catalog instance item.table = cc in
       let others : map (λ (leg : Leg). rows_at instance leg.table) legs ≡ tables_of catalog instance items = cc in
       let read : chain_visits instance (leg ∷ legs) end s
-      ≡ total (λ row. cond (ties row) (1 + cond (all_kept leg.tests (s ++ row ∷ [])) (rest (s ++ row ∷ [])) 0) 0) (rows_of catalog instance item.table) =
-      sum_total (λ row. 1 + cond (all_kept leg.tests (s ++ row ∷ [])) (rest (s ++ row ∷ [])) 0) (filter ties (rows_at instance leg.table))
-      ∙ total_filter (λ row. 1 + cond (all_kept leg.tests (s ++ row ∷ [])) (rest (s ++ row ∷ [])) 0) ties (rows_at instance leg.table)
-      ∙ ap (total (λ row. cond (ties row) (1 + cond (all_kept leg.tests (s ++ row ∷ [])) (rest (s ++ row ∷ [])) 0) 0)) rows in
+      ≡ total (λ row. cond (ways row) (cond (ties row) (1 + cond (all_kept leg.tests (s ++ row ∷ [])) (rest (s ++ row ∷ [])) 0) 0) 0) (rows_of catalog instance item.table) =
+      sum_total (λ row. 1 + cond (all_kept leg.tests (s ++ row ∷ [])) (rest (s ++ row ∷ [])) 0) (filter ties (filter ways (rows_at instance leg.table)))
+      ∙ total_filter (λ row. 1 + cond (all_kept leg.tests (s ++ row ∷ [])) (rest (s ++ row ∷ [])) 0) ties (filter ways (rows_at instance leg.table))
+      ∙ total_filter (λ row. cond (ties row) (1 + cond (all_kept leg.tests (s ++ row ∷ [])) (rest (s ++ row ∷ [])) 0) 0) ways (rows_at instance leg.table)
+      ∙ ap (total (λ row. cond (ways row) (cond (ties row) (1 + cond (all_kept leg.tests (s ++ row ∷ [])) (rest (s ++ row ∷ [])) 0) 0) 0)) rows in
       subst (λ n. n ≤ most (own_tuple done s) (item ∷ items)) (sym read)
-      (subst (λ n. total (λ row. cond (ties row) (1 + cond (all_kept leg.tests (s ++ row ∷ [])) (rest (s ++ row ∷ [])) 0) 0) (rows_of catalog instance item.table) ≤ n)
+      (subst (λ n. total (λ row. cond (ways row) (cond (ties row) (1 + cond (all_kept leg.tests (s ++ row ∷ [])) (rest (s ++ row ∷ [])) 0) 0) 0) (rows_of catalog instance item.table) ≤ n)
       (sym (most_next (own_tuple done s) item items))
       (total_least _ _ (rows_of catalog instance item.table) (λ row in_table.
       let typed = typed_row catalog instance meets item row in_table in
       let small_now : suc (length s) < 2 ^ 64 - 1 = omega (arith, small) in
-      at_row (own_tuple done s ++ bound_at item row ∷ []) (ties row) (all_kept leg.tests (s ++ row ∷ [])) (rest (s ++ row ∷ []))
+      at_row (own_tuple done s ++ bound_at item row ∷ []) (ways row) (ties row) (all_kept leg.tests (s ++ row ∷ [])) (rest (s ++ row ∷ []))
       (λ tied. tied_agrees done items item s row before leg legs whole h typed small_now kept levels sorts tied)
       (λ all. subst (λ t. rest (s ++ row ∷ []) ≤ most t items) (own_next done item s row h.long)
       (chain_bounded items (done ++ item ∷ []) legs (before ++ leg.tests) (s ++ row ∷ []) (append_assoc done (item ∷ []) items ∙ whole) others (there_next done item s row h typed)
@@ -281,14 +284,15 @@ module _ (catalog : Catalog) (instance : InstanceRows) (meets : MeetsTypes catal
       (both_kept (s ++ row ∷ []) before leg.tests (still_kept s row before (omega (arith, small)) kept) (kept_now s row leg.tests levels.0 all))
       (subst (λ n. AreDecidedAt n legs) (sym (stack_longer s row)) levels.1) (sorts_next before leg legs sorts))))))
     where
-      at_row : (now : Tuple) (tied all : Bool) (n : ℕ) → (tied ≡ true → agrees catalog conditions (now ++ around) ≡ true) → (all ≡ true → n ≤ most now items)
-          → cond tied (1 + cond all n 0) 0 ≤ (one_if_agrees catalog instance around conditions (now ++ around) + partials catalog instance around conditions now items)
+      at_row : (now : Tuple) (way tied all : Bool) (n : ℕ) → (tied ≡ true → agrees catalog conditions (now ++ around) ≡ true) → (all ≡ true → n ≤ most now items)
+          → cond way (cond tied (1 + cond all n 0) 0) 0 ≤ (one_if_agrees catalog instance around conditions (now ++ around) + partials catalog instance around conditions now items)
           + total_behind catalog instance around (if_kept catalog instance around conditions behind) now items
-      at_row now false all n f g = omega arith
-      at_row now true true n f g =
+      at_row now false tied all n f g = omega arith
+      at_row now true false all n f g = omega arith
+      at_row now true true true n f g =
           let one : one_if_agrees catalog instance around conditions (now ++ around) ≡ 1 = ap (λ b. cond b 1 0) (f refl) in
           let rest = g refl in
           omega (arith, one, rest)
-      at_row now true false n f g =
+      at_row now true true false n f g =
           let one : one_if_agrees catalog instance around conditions (now ++ around) ≡ 1 = ap (λ b. cond b 1 0) (f refl) in
           omega (arith, one)

@@ -1,6 +1,5 @@
 -- How what is found is put out, step by step.
-use Rattle.std.proofs.Common.{◌≡◌, ℕ, suc, ◌+◌, ◌<◌, ◌≤◌, cond, ◌&&◌, Bool, true, false, List, [], ◌∷◌, ◌++◌, map, drop, length, get_or, refl, sym, ap, subst, ◌∙◌, arith, Option, Some, None, append_assoc, eq-eqb}
-use Rattle.std.specs.Prelude.{filter}
+use Rattle.std.proofs.Common.{◌≡◌, ℕ, suc, ◌+◌, ◌<◌, ◌≤◌, cond, ◌&&◌, Bool, true, false, List, [], ◌∷◌, ◌++◌, map, drop, length, get_or, refl, sym, ap, subst, ◌∙◌, arith, Option, Some, None, append_assoc}
 use Rattle.std.specs.Borrow.{Bor}
 use Rattle.std.specs.Option.{option_copied}
 use Rattle.std.specs.List.{list_all, fold}
@@ -26,17 +25,14 @@ use Rattle.row_eval.specs.declared.frame.Condition.{Condition}
 use Rattle.row_eval.specs.declared.frame.Output.{Output}
 use Rattle.row_eval.specs.declared.access.Access.{Access}
 use Rattle.row_eval.specs.declared.access.Tied.{Tied}
-use Rattle.row_eval.specs.declared.access.Pair.{Pair}
-use Rattle.row_eval.specs.declared.index.Index.{Index}
 use Rattle.row_eval.specs.declared.stage.Stage.{Stage}
 use Rattle.row_eval.specs.declared.stage.Stage.TheVariants as v
 use Rattle.row_eval.specs.Stored.{row_values}
 use Rattle.row_eval.specs.Slots.{Stack, slot_value}
 use Rattle.row_eval.specs.Access.{agree, column_value, matches_row, rows_given, rows_among}
-use Rattle.row_eval.specs.Served.{code_from, code_of, row_code, stack_code, is_code, is_null, writes, group_in, IsIndexOf}
+use Rattle.row_eval.specs.Served.{code_from, code_of, row_code, stack_code, is_null, writes}
 use Rattle.row_eval.specs.Stages.{all_kept, found, found_on, visits, visits_on, output_row, Collects}
 use Rattle.row_eval.proofs.StageLemmas.{found-Keep, found-Join, found-Absent, visits-Keep, visits-Join, drop_next}
-use Rattle.row_eval.proofs.IndexLemmas.{rows_at_places, each_below, filter_within}
 
 -- ---- the stages
 
@@ -165,10 +161,6 @@ and_no : (b : Bool) → (b && false) ≡ false
 and_no true = refl
 and_no false = refl
 
-filter_nothing : {X : Type 0} (p : X → Bool) → ((x : X) → p x ≡ false) → (xs : List X) → filter p xs ≡ []
-filter_nothing p none [] = refl
-filter_nothing p none (x ∷ xs) = ap (λ b. cond b (x ∷ filter p xs) (filter p xs)) (none x) ∙ filter_nothing p none xs
-
 known_equal : (o : Ordering) → is_true (known (holds Equal o)) ≡ true → o ≡ order.Equal
 known_equal order.Equal h = refl
 known_equal order.Less h = absurd cc
@@ -205,10 +197,10 @@ module _ (s : Stack) (row : RowValues) where
       ap (λ x. x ∷ map (λ (t : Tied). column_value row t.own) ts) (agree_equal (column_value row t.own) (slot_value s t.other) two.0)
       ∙ ap (λ xs. slot_value s t.other ∷ xs) (values_equal ts two.1)
 
-  codes_equal : (tied : List Tied) → ties tied ≡ true → row_code tied row ≡ stack_code tied s
+  pub codes_equal : (tied : List Tied) → ties tied ≡ true → row_code tied row ≡ stack_code tied s
   codes_equal tied h = ap code_of (values_equal tied h)
 
-  no_ties : (hasher : FoldHasher) (tied : List Tied) → code_from hasher (map (λ (t : Tied). slot_value s t.other) tied) ≡ None → ties tied ≡ false
+  pub no_ties : (hasher : FoldHasher) (tied : List Tied) → code_from hasher (map (λ (t : Tied). slot_value s t.other) tied) ≡ None → ties tied ≡ false
   no_ties hasher [] h = absurd cc
   no_ties hasher (t ∷ ts) h = go (is_null (slot_value s t.other)) refl h (λ (other : FoldHasher). no_ties other ts)
     where
@@ -219,31 +211,3 @@ module _ (s : Stack) (row : RowValues) where
       go true e k behind = ap (λ b. b && ties ts) (null_apart (column_value row t.own) (slot_value s t.other) e)
       go false e k behind = ap (λ b. agree (column_value row t.own) (slot_value s t.other) && b) (behind (fold folding.write hasher (writes (slot_value s t.other))) k)
           ∙ and_no (agree (column_value row t.own) (slot_value s t.other))
-
-pub given_of_group : (instance : InstanceRows) (access : Access) (s : Stack) (index : Index) (code : ℕ)
-    → IsIndexOf access.tied (rows_at instance access.table) index → stack_code access.tied s ≡ Some code
-    → rows_among instance access s (group_in index.groups code) ≡ rows_given instance access s
-given_of_group instance access s index code right is =
-    let table = rows_at instance access.table in
-    let has = λ (row : RowValues). is_code code (row_code access.tied row) in
-    let wider : (row : RowValues) → matches_row access s row ≡ true → has row ≡ true =
-    λ row h. ap (is_code code) (codes_equal s row access.tied
-    (and_parts (ties s row access.tied) (list_all (λ (p : Pair). agree (column_value row p.left) (column_value row p.right)) access.pairs) h).0 ∙ is)
-    ∙ eq-eqb code code refl in
-    ap (rows_among instance access s) (right.groups code)
-    ∙ ap (filter (matches_row access s)) (rows_at_places has table [] table refl)
-    ∙ filter_within (matches_row access s) has wider table
-
-pub group_below : (instance : InstanceRows) (access : Access) (index : Index) (code : ℕ) → IsIndexOf access.tied (rows_at instance access.table) index
-    → (j : ℕ) → j < length (group_in index.groups code) → get_or (group_in index.groups code) j 0 < length (rows_at instance access.table)
-group_below instance access index code right j h =
-    let table = rows_at instance access.table in
-    let has = λ (row : RowValues). is_code code (row_code access.tied row) in
-    subst (λ l. get_or l j 0 < length table) (sym (right.groups code))
-    (each_below has 0 table (length table) (omega arith) j (subst (λ l. j < length l) (right.groups code) h))
-
-pub none_given : (instance : InstanceRows) (access : Access) (s : Stack) → stack_code access.tied s ≡ None → rows_given instance access s ≡ []
-none_given instance access s is =
-    filter_nothing (matches_row access s)
-    (λ row. ap (λ b. b && list_all (λ (p : Pair). agree (column_value row p.left) (column_value row p.right)) access.pairs) (no_ties s row folding.initial access.tied is))
-    (rows_at instance access.table)

@@ -26,7 +26,9 @@ use Rattle.row_eval.specs.declared.legs.Leg.{Leg}
 use Rattle.row_eval.specs.declared.sorting.Sorted.{Sorted}
 use Rattle.row_eval.specs.Levels.{highest, level_step, level_in}
 use Rattle.row_eval.specs.Scopes.{Placed, AreBelow, slot_in_reach, leaf_at_slot, leaf_expr_of}
-use Rattle.row_eval.specs.Sorted.{each_passes, all_pass, AreDecidedAt, IsSorted, Adds, AddsTest, SortsAll, bare_leg, table_place_of, leg_tables}
+use Rattle.row_eval.specs.Slots.{Stack, is_kept}
+use Rattle.row_eval.specs.Sorted.{each_passes, all_pass, AreDecidedAt, IsSorted, IsNarrow, AreNarrow, Narrows, Adds, AddsTest, SortsAll, bare_leg, table_place_of, leg_tables, leg_ways}
+use Rattle.row_eval.specs.Ways.{ways_at, AreWays}
 use Rattle.row_eval.specs.Plans.{plain_at}
 use Rattle.row_eval.proofs.TypedLemmas.{table_there}
 
@@ -185,6 +187,75 @@ module _ (leg new : Leg) (c : Condition) (more : new.tests ≡ leg.tests ++ c �
   same_tables (x ∷ legs) zero h is = ap (λ n. n ∷ leg_tables legs) (same ∙ ap (λ (l : Leg). l.table) is)
   same_tables (x ∷ legs) (suc i) h is = ap (λ l. x.table ∷ l) (same_tables legs i (omega arith) is)
 
+pub same_ways : (leg new : Leg) → new.ways ≡ leg.ways → (legs : List Leg) (i : ℕ) → i < length legs → leg ≡ get_or legs i leg → leg_ways (set legs i new) ≡ leg_ways legs
+same_ways leg new same [] i h is = absurd (omega arith)
+same_ways leg new same (x ∷ legs) zero h is = ap (λ l. l ∷ leg_ways legs) (same ∙ ap (λ (l : Leg). l.ways) is)
+same_ways leg new same (x ∷ legs) (suc i) h is = ap (λ l. x.ways ∷ l) (same_ways leg new same legs i (omega arith) is)
+
+pub legs_alike : (xs ys : List Leg) → leg_tables xs ≡ leg_tables ys → length xs ≡ length ys
+legs_alike xs ys e = sym (long xs) ∙ ap length e ∙ long ys
+  where
+    long : (legs : List Leg) → length (leg_tables legs) ≡ length legs
+    long [] = refl
+    long (leg ∷ legs) = ap suc (long legs)
+
+-- ---- a leg that gets ways
+
+module _ (leg new : Leg) (tests : new.tests ≡ leg.tests) (table : new.table ≡ leg.table) where
+  ways_pass : (test : Expr Slot → Bool) (legs : List Leg) (i : ℕ) → i < length legs → leg ≡ get_or legs i leg
+      → list_all (λ (leg : Leg). each_passes test leg.tests) (set legs i new) ≡ list_all (λ (leg : Leg). each_passes test leg.tests) legs
+  ways_pass test [] i h is = absurd (omega arith)
+  ways_pass test (x ∷ legs) zero h is =
+      ap (λ l. each_passes test l && list_all (λ (leg : Leg). each_passes test leg.tests) legs) (tests ∙ ap (λ (l : Leg). l.tests) is)
+  ways_pass test (x ∷ legs) (suc i) h is = ap (λ b. each_passes test x.tests && b) (ways_pass test legs i (omega arith) is)
+
+  ways_decided : (depth : ℕ) (legs : List Leg) (i : ℕ) → i < length legs → leg ≡ get_or legs i leg → AreDecidedAt depth legs → AreDecidedAt depth (set legs i new)
+  ways_decided depth [] i h is sorted = absurd (omega arith)
+  ways_decided depth (x ∷ legs) zero h is sorted = (
+    subst (λ l. AllByRecursion (λ (c : Condition). level_in c.expr ≡ suc depth) l) (sym (tests ∙ ap (λ (l : Leg). l.tests) is)) sorted.0,
+    sorted.1,
+  )
+  ways_decided depth (x ∷ legs) (suc i) h is sorted = (sorted.0, ways_decided (suc depth) legs i (omega arith) is sorted.1)
+
+  ways_tables : (legs : List Leg) (i : ℕ) → i < length legs → leg ≡ get_or legs i leg → leg_tables (set legs i new) ≡ leg_tables legs
+  ways_tables [] i h is = absurd (omega arith)
+  ways_tables (x ∷ legs) zero h is = ap (λ n. n ∷ leg_tables legs) (table ∙ ap (λ (l : Leg). l.table) is)
+  ways_tables (x ∷ legs) (suc i) h is = ap (λ l. x.table ∷ l) (ways_tables legs i (omega arith) is)
+
+  ways_narrow : (t : Stack) (depth : ℕ) (legs : List Leg) (i : ℕ) → i < length legs → (depth + i < length t → ways_at (depth + i) t new.ways ≡ true)
+      → AreNarrow t depth (leg_ways legs) → AreNarrow t depth (leg_ways (set legs i new))
+  ways_narrow t depth [] i h right narrow = absurd (omega arith)
+  ways_narrow t depth (x ∷ legs) zero h right narrow =
+      let here : depth + 0 ≡ depth = omega arith in
+      (subst (λ n. n < length t → ways_at n t new.ways ≡ true) here right, narrow.1)
+  ways_narrow t depth (x ∷ legs) (suc i) h right narrow =
+      let here : depth + suc i ≡ suc depth + i = omega arith in
+      (narrow.0, ways_narrow t (suc depth) legs i (omega arith) (subst (λ n. n < length t → ways_at n t new.ways ≡ true) here right) narrow.1)
+
+  pub narrows_leg : (depth : ℕ) (condition : Expr Slot) (old made : Sorted) (i place : ℕ) → i < length old.legs.items → leg ≡ get_or old.legs.items i leg
+      → depth + i ≡ place → made.first ≡ old.first → made.legs.items ≡ set old.legs.items i new → AreWays place (λ t. is_kept t condition) new.ways
+      → Narrows depth condition old made
+  narrows_leg depth condition old made i place h is at first legs right = record {
+    all = λ test. ap (λ l. all_pass test l made.legs.items) first ∙ ap (all_pass test old.first) legs
+        ∙ ap (λ b. each_passes test old.first && b) (ways_pass test old.legs.items i h is);
+    sorted = λ sorted. subst (λ l. IsSorted depth l made.legs.items) (sym first) (subst (IsSorted depth old.first) (sym legs)
+        (record { first = sorted.first; legs = ways_decided depth old.legs.items i h is sorted.legs }));
+    tables = ap leg_tables legs ∙ ways_tables old.legs.items i h is;
+    narrow = λ t test narrow. subst (λ l. AreNarrow t depth (leg_ways l)) (sym legs)
+        (ways_narrow t depth old.legs.items i h (subst (λ n. n < length t → ways_at n t new.ways ≡ true) (sym at) (λ inside. right t inside test)) narrow);
+  }
+
+pub narrows_none : (depth : ℕ) (condition : Expr Slot) (old : Sorted) → Narrows depth condition old old
+narrows_none depth condition old = record { all = λ test. refl; sorted = λ h. h; tables = refl; narrow = λ t test h. h }
+
+pub narrows_more : (depth : ℕ) (condition : Expr Slot) (old now new : Sorted) → Narrows depth condition old now → Narrows depth condition now new → Narrows depth condition old new
+narrows_more depth condition old now new first second = record {
+  all = λ test. second.all test ∙ first.all test;
+  sorted = λ h. second.sorted (first.sorted h);
+  tables = second.tables ∙ first.tables;
+  narrow = λ t test h. second.narrow t test (first.narrow t test h);
+}
+
 -- ---- conditions one after another
 
 module _ (catalog : Catalog) (reach : List Placed) (depth : ℕ) where
@@ -193,16 +264,19 @@ module _ (catalog : Catalog) (reach : List Placed) (depth : ℕ) where
   and_true false = refl
 
   pub adds_none : (old : Sorted) → IsSorted depth old.first old.legs.items → Adds catalog reach depth [] old old
-  adds_none old sorted = record { all = λ test. and_true (all_pass test old.first old.legs.items); sorted = sorted; tables = refl }
+  adds_none old sorted = record { all = λ test. and_true (all_pass test old.first old.legs.items); sorted = sorted; tables = refl; narrow = λ h. h }
 
-  pub adds_one : (e : Expr ColumnLeaf) (old new : Sorted) (made : Expr Slot) → made ≡ mapped (leaf_expr_of catalog reach) e → AddsTest made old new
-      → IsSorted depth new.first new.legs.items
-      → leg_tables new.legs.items ≡ leg_tables old.legs.items → Adds catalog reach depth (e ∷ []) old new
-  adds_one e old new made is all sorted tables = record {
-    all = λ test. all test ∙ ap (λ x. all_pass test old.first old.legs.items && test x) is
+  pub adds_one : (e : Expr ColumnLeaf) (old mid new : Sorted) (made : Expr Slot) → made ≡ mapped (leaf_expr_of catalog reach) e → Narrows depth made old mid
+      → AddsTest made mid new → IsSorted depth new.first new.legs.items → leg_tables new.legs.items ≡ leg_tables mid.legs.items
+      → leg_ways new.legs.items ≡ leg_ways mid.legs.items → Adds catalog reach depth (e ∷ []) old new
+  adds_one e old mid new made is narrows all sorted tables ways = record {
+    all = λ test. all test ∙ ap (λ b. b && test made) (narrows.all test) ∙ ap (λ x. all_pass test old.first old.legs.items && test x) is
         ∙ ap (λ b. all_pass test old.first old.legs.items && b) (and_true (test (mapped (leaf_expr_of catalog reach) e)));
     sorted = sorted;
-    tables = tables;
+    tables = tables ∙ narrows.tables;
+    narrow = λ h t pass.
+        let two = and_parts (all_pass (is_kept t) mid.first mid.legs.items) (is_kept t made) (sym (all (is_kept t)) ∙ pass) in
+        subst (AreNarrow t depth) (sym ways) (narrows.narrow t two.1 (h t (sym (narrows.all (is_kept t)) ∙ two.0)));
   }
 
   pub adds_more : (xs ys : List (Expr ColumnLeaf)) (old now new : Sorted) → Adds catalog reach depth xs old now → Adds catalog reach depth ys now new
@@ -214,6 +288,7 @@ module _ (catalog : Catalog) (reach : List Placed) (depth : ℕ) where
         ∙ ap (λ b. all_pass test old.first old.legs.items && b) (sym (list_all-append p xs ys));
     sorted = second.sorted;
     tables = second.tables ∙ first.tables;
+    narrow = λ h. second.narrow (first.narrow h);
   }
 
   tables_long : (legs : List Leg) → length (leg_tables legs) ≡ length legs
@@ -261,6 +336,16 @@ module _ (catalog : Catalog) where
   bare_passes : (test : Expr Slot → Bool) (items : List FromItem) → all_pass test [] (map (bare_leg catalog) items) ≡ true
   bare_passes test [] = refl
   bare_passes test (item ∷ items) = bare_passes test items
+
+  bare_narrow : (t : Stack) (depth : ℕ) (items : List FromItem) → AreNarrow t depth (leg_ways (map (bare_leg catalog) items))
+  bare_narrow t depth [] = tt
+  bare_narrow t depth (item ∷ items) = (λ inside. refl, bare_narrow t (suc depth) items)
+
+  pub sorted_narrow : (reach : List Placed) (depth : ℕ) (items : List FromItem) (xs ys : List (Expr ColumnLeaf)) (bare half new : Sorted) → bare.legs.items
+      ≡ map (bare_leg catalog) items
+      → Adds catalog reach depth xs bare half → Adds catalog reach depth ys half new → IsNarrow depth new
+  sorted_narrow reach depth items xs ys bare half new legs first second =
+      second.narrow (first.narrow (λ t pass. subst (λ l. AreNarrow t depth (leg_ways l)) (sym legs) (bare_narrow t depth items)))
 
   bare_tables : (items : List FromItem) → leg_tables (map (bare_leg catalog) items) ≡ map (table_place_of catalog) items
   bare_tables [] = refl

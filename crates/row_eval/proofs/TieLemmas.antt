@@ -13,18 +13,18 @@ use Rattle.row_eval.specs.declared.frame.Slot.{Slot}
 use Rattle.row_eval.specs.declared.frame.Condition.{Condition}
 use Rattle.row_eval.specs.declared.access.Tied.{Tied}
 use Rattle.row_eval.specs.declared.access.Pair.{Pair}
-use Rattle.row_eval.specs.declared.access.Access.{Access}
+use Rattle.row_eval.specs.declared.ties.Equalities.{Equalities}
 use Rattle.row_eval.specs.declared.ties.Side.{Side}
 use Rattle.row_eval.specs.declared.ties.Side.TheVariants.{Own, Earlier}
 use Rattle.row_eval.specs.Slots.{Stack, fitted, slot_value}
-use Rattle.row_eval.specs.Access.{agree, column_value, matches_row}
-use Rattle.row_eval.specs.Ties.{side_of, tied_sides, own_of, pair_holds, tie_holds, ties_hold}
+use Rattle.row_eval.specs.Access.{agree, column_value}
+use Rattle.row_eval.specs.Ties.{side_of, tied_sides, own_of, pair_holds, tie_holds, ties_hold, equalities_hold}
 use Rattle.row_eval.proofs.RunLemmas.{agree_equal}
 
-own_place : (place : ℕ) (slot : Slot) → side_of place slot ≡ Own → slot.item ≡ place
+pub own_place : (place : ℕ) (slot : Slot) → side_of place slot ≡ Own → slot.item ≡ place
 own_place place slot h = grind (arith, nat_tests)
 
-earlier_place : (place : ℕ) (slot : Slot) → side_of place slot ≡ Earlier → slot.item < place
+pub earlier_place : (place : ℕ) (slot : Slot) → side_of place slot ≡ Earlier → slot.item < place
 earlier_place place slot h = grind (arith, nat_tests)
 
 module _ (s : Stack) (row : RowValues) where
@@ -34,7 +34,7 @@ module _ (s : Stack) (row : RowValues) where
   earlier_value : (slot : Slot) → slot.item < length s → slot_value (s ++ row ∷ []) slot ≡ slot_value s slot
   earlier_value slot h = ap (λ r. fitted slot.class (value_at r slot.column)) (get_or-append s (row ∷ []) [] slot.item h)
 
-agree_turned : (a b : Value) → agree a b ≡ agree b a
+pub agree_turned : (a b : Value) → agree a b ≡ agree b a
 agree_turned a b = go (agree a b) (agree b a) refl refl
   where
     go : (x y : Bool) → agree a b ≡ x → agree b a ≡ y → agree a b ≡ agree b a
@@ -69,7 +69,7 @@ untied place s row a b x y e f h =
     ∙ ap (λ z. cond (tied_sides x z) (agree (slot_value (s ++ row ∷ []) a) (slot_value (s ++ row ∷ []) b)) true) f
     ∙ ap (λ z. cond z (agree (slot_value (s ++ row ∷ []) a) (slot_value (s ++ row ∷ []) b)) true) h
 
-module _ (access : Access) (s : Stack) (row : RowValues) where
+module _ (made : Equalities) (s : Stack) (row : RowValues) where
   abbrev one : Tied → Bool
   one t = agree (column_value row t.own) (slot_value s t.other)
 
@@ -77,40 +77,40 @@ module _ (access : Access) (s : Stack) (row : RowValues) where
   pair p = agree (column_value row p.left) (column_value row p.right)
 
   pub with_pair : (a b : Slot) (place : ℕ) (pairs : List Pair) → length s ≡ place → side_of place a ≡ Own → side_of place b ≡ Own
-      → pairs ≡ access.pairs ++ record { left = own_of a; right = own_of b } ∷ []
-      → (list_all one access.tied && list_all pair pairs) ≡ (matches_row access s row && pair_holds place s row a b)
+      → pairs ≡ made.pairs ++ record { left = own_of a; right = own_of b } ∷ []
+      → (list_all one made.tied && list_all pair pairs) ≡ (equalities_hold made s row && pair_holds place s row a b)
   with_pair a b place pairs long left right is =
       let new : Pair = record { left = own_of a; right = own_of b } in
       let values : pair_holds place s row a b ≡ pair new =
       held place s row a b Own Own left right refl
       ∙ ap (λ z. agree z (slot_value (s ++ row ∷ []) b)) (own_value s row a (own_place place a left ∙ sym long))
       ∙ ap (λ z. agree (column_value row (own_of a)) z) (own_value s row b (own_place place b right ∙ sym long)) in
-      ap (λ l. list_all one access.tied && list_all pair l) is ∙ ap (λ z. list_all one access.tied && z) (list_all-append pair access.pairs (new ∷ []))
-      ∙ and_last (list_all one access.tied) (list_all pair access.pairs) (pair new) ∙ ap (λ z. matches_row access s row && z) (sym values)
+      ap (λ l. list_all one made.tied && list_all pair l) is ∙ ap (λ z. list_all one made.tied && z) (list_all-append pair made.pairs (new ∷ []))
+      ∙ and_last (list_all one made.tied) (list_all pair made.pairs) (pair new) ∙ ap (λ z. equalities_hold made s row && z) (sym values)
 
   pub with_tie : (a b : Slot) (place : ℕ) (tied : List Tied) → length s ≡ place → side_of place a ≡ Own → side_of place b ≡ Earlier
-      → tied ≡ access.tied ++ record { own = own_of a; other = b } ∷ []
-      → (list_all one tied && list_all pair access.pairs) ≡ (matches_row access s row && pair_holds place s row a b)
+      → tied ≡ made.tied ++ record { own = own_of a; other = b } ∷ []
+      → (list_all one tied && list_all pair made.pairs) ≡ (equalities_hold made s row && pair_holds place s row a b)
   with_tie a b place tied long left right is =
       let new : Tied = record { own = own_of a; other = b } in
       let values : pair_holds place s row a b ≡ one new =
       held place s row a b Own Earlier left right refl
       ∙ ap (λ z. agree z (slot_value (s ++ row ∷ []) b)) (own_value s row a (own_place place a left ∙ sym long))
       ∙ ap (λ z. agree (column_value row (own_of a)) z) (earlier_value s row b (subst (λ n. b.item < n) (sym long) (earlier_place place b right))) in
-      ap (λ l. list_all one l && list_all pair access.pairs) is ∙ ap (λ z. z && list_all pair access.pairs) (list_all-append one access.tied (new ∷ []))
-      ∙ and_middle (list_all one access.tied) (list_all pair access.pairs) (one new) ∙ ap (λ z. matches_row access s row && z) (sym values)
+      ap (λ l. list_all one l && list_all pair made.pairs) is ∙ ap (λ z. z && list_all pair made.pairs) (list_all-append one made.tied (new ∷ []))
+      ∙ and_middle (list_all one made.tied) (list_all pair made.pairs) (one new) ∙ ap (λ z. equalities_hold made s row && z) (sym values)
 
   pub with_turned_tie : (a b : Slot) (place : ℕ) (tied : List Tied) → length s ≡ place → side_of place a ≡ Earlier → side_of place b ≡ Own
-      → tied ≡ access.tied ++ record { own = own_of b; other = a } ∷ []
-      → (list_all one tied && list_all pair access.pairs) ≡ (matches_row access s row && pair_holds place s row a b)
+      → tied ≡ made.tied ++ record { own = own_of b; other = a } ∷ []
+      → (list_all one tied && list_all pair made.pairs) ≡ (equalities_hold made s row && pair_holds place s row a b)
   with_turned_tie a b place tied long left right is =
       let new : Tied = record { own = own_of b; other = a } in
       let values : pair_holds place s row a b ≡ one new =
       held place s row a b Earlier Own left right refl ∙ agree_turned (slot_value (s ++ row ∷ []) a) (slot_value (s ++ row ∷ []) b)
       ∙ ap (λ z. agree z (slot_value (s ++ row ∷ []) a)) (own_value s row b (own_place place b right ∙ sym long))
       ∙ ap (λ z. agree (column_value row (own_of b)) z) (earlier_value s row a (subst (λ n. a.item < n) (sym long) (earlier_place place a left))) in
-      ap (λ l. list_all one l && list_all pair access.pairs) is ∙ ap (λ z. z && list_all pair access.pairs) (list_all-append one access.tied (new ∷ []))
-      ∙ and_middle (list_all one access.tied) (list_all pair access.pairs) (one new) ∙ ap (λ z. matches_row access s row && z) (sym values)
+      ap (λ l. list_all one l && list_all pair made.pairs) is ∙ ap (λ z. z && list_all pair made.pairs) (list_all-append one made.tied (new ∷ []))
+      ∙ and_middle (list_all one made.tied) (list_all pair made.pairs) (one new) ∙ ap (λ z. equalities_hold made s row && z) (sym values)
 
 and_one : (x y : Bool) → (x && (y && true)) ≡ (x && y)
 and_one true true = refl

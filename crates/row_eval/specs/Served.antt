@@ -1,10 +1,10 @@
 -- Indexes: the places of a table's rows, by a code of the columns that are tied.
-use Rattle.std.specs.Prelude.{◌≡◌, ℕ, suc, ◌==◌, ◌<◌, Bool, true, false, cond, List, [], ◌∷◌, ◌++◌, map, length, Option, Some, None, slice_get, nat_eq}
+use Rattle.std.specs.Prelude.{◌≡◌, ℕ, suc, ◌==◌, ◌<◌, Bool, true, false, cond, List, [], ◌∷◌, ◌++◌, map, length, Option, Some, None, slice_get, nat_eq, nat_lt}
 use Rattle.std.specs.Option.{option_map_or}
 use Rattle.std.specs.HashMap.{HashMap, get}
 use Rattle.std.specs.declared.vec.Vec.{Vec}
 use Rattle.std.specs.declared.alloc.Global.{Global}
-use Rattle.std.specs.List.{fold, AllByRecursion}
+use Rattle.std.specs.List.{fold, list_any, AllByRecursion}
 use Rattle.std.specs.Hash as fed
 use Rattle.std.specs.Hash.FoldHasher as folding
 use Rattle.std.specs.declared.hash.FoldHasher.{FoldHasher}
@@ -12,8 +12,10 @@ use Rattle.pgq_base.specs.declared.value.Value.{Value}
 use Rattle.pgq_base.specs.declared.value.Value.TheVariants as value
 use Rattle.pgq_base.specs.Instances.{RowValues, TableRows, InstanceRows, rows_at}
 use Rattle.row_eval.specs.declared.access.Tied.{Tied}
+use Rattle.row_eval.specs.declared.access.Key.{Key}
 use Rattle.row_eval.specs.declared.access.Access.{Access}
 use Rattle.row_eval.specs.Access.{column_value}
+use Rattle.row_eval.specs.declared.index.Groups.{Groups}
 use Rattle.row_eval.specs.declared.index.Index.{Index}
 use Rattle.row_eval.specs.Slots.{Stack, slot_value, lent_rows}
 
@@ -58,17 +60,45 @@ abbrev pub places_from : (RowValues → Bool) → ℕ → TableRows → List ℕ
 places_from test at [] = []
 places_from test at (row ∷ rows) = cond (test row) (at ∷ places_from test (suc at) rows) (places_from test (suc at) rows)
 
--- the index has the table's rows, and under each code the places of those that have it, in order
-pub record IsIndexOf (tied : List Tied) (rows : TableRows) (index : Index) : Type 0 where
+-- under each code the places of the rows that have it, in order
+abbrev pub IsGroupsOf : List Tied → TableRows → Groups → Type 0
+IsGroupsOf tied rows groups = (q : ℕ) → group_in groups.places q ≡ places_from (λ row. is_code q (row_code tied row)) 0 rows
+
+-- the groups of each key
+abbrev pub AreGroupsOf : List Key → TableRows → List Groups → Type 0
+AreGroupsOf [] rows [] = Unit {0}
+AreGroupsOf (key ∷ keys) rows (groups ∷ others) = IsGroupsOf key.tied rows groups × AreGroupsOf keys rows others
+AreGroupsOf keys rows groups = ⊥
+
+-- the index has the table's rows, and groups for each key
+pub record IsIndexOf (keys : List Key) (rows : TableRows) (index : Index) : Type 0 where
   pub lent : lent_rows index.rows.items ≡ rows
-  pub groups : (q : ℕ) → group_in index.groups q ≡ places_from (λ row. is_code q (row_code tied row)) 0 rows
+  pub groups : AreGroupsOf keys rows index.groups.items
+
+-- there is a code, and it is the row's
+abbrev pub shares_code : Option ℕ → Option ℕ → Bool
+shares_code None other = false
+shares_code (Some code) other = is_code code other
+
+-- by one of the keys the row has the code of the rows before it
+abbrev pub is_candidate : List Key → Stack → RowValues → Bool
+is_candidate keys stack row = list_any (λ (k : Key). shares_code (stack_code k.tied stack) (row_code k.tied row)) keys
+
+-- Two ascending lists as one, without repeats.
+abbrev pub put_before : ℕ → (List ℕ → List ℕ) → List ℕ → List ℕ
+put_before x rest [] = x ∷ rest []
+put_before x rest (y ∷ ys) = cond (nat_lt x y) (x ∷ rest (y ∷ ys)) (cond (nat_lt y x) (y ∷ put_before x rest ys) (put_before x rest ys))
+
+abbrev pub merge : List ℕ → List ℕ → List ℕ
+merge [] = λ ys. ys
+merge (x ∷ xs) = put_before x (merge xs)
 
 -- the access's index is that of its table, which is there
 pub record IsServed (tables : InstanceRows) (indexes : List Index) (access : Access) : Type 0 where
   pub table : access.table < length tables
   pub index : Index
   pub at : slice_get indexes access.index ≡ Some index
-  pub right : IsIndexOf access.tied (rows_at tables access.table) index
+  pub right : IsIndexOf access.keys (rows_at tables access.table) index
 
 -- each access of a stage is served
 abbrev pub AllServed : InstanceRows → List Index → List Access → Type 0

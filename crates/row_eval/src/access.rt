@@ -1,8 +1,7 @@
-ghost use Rattle.std.specs.Prelude.{◌≡◌, map};
-ghost use Rattle.std.specs.List.{list_all};
+ghost use Rattle.std.specs.Prelude.{◌≡◌};
 ghost use Rattle.pgq_base.specs.Values.{owned};
-ghost use Rattle.row_eval.specs.Slots.{lent_rows, slot_value};
-ghost use Rattle.row_eval.specs.Access.{column_value, agree, matches_row};
+ghost use Rattle.row_eval.specs.Slots.{lent_rows};
+ghost use Rattle.row_eval.specs.Access.{column_value, agree, matches_row, ties_agree, some_agree, pairs_agree};
 
 use crate::frame::{Slot, fitting, slot_in, value_in_row};
 use pgq_base::{Class, List, Row, ValueRef, compare_sizes};
@@ -29,12 +28,19 @@ pub struct Pair {
     pub right: Own,
 }
 
-/// Which rows of a table are read: those that agree with the rows before them. The index is found by number.
+/// Ties that hold together.
+#[derive(Debug, Drop)]
+pub struct Key {
+    pub tied: List<Tied>,
+}
+
+/// Which rows of a table are read: those that agree with the rows before them by one of the keys. The index is found by
+/// number, and has groups for each key.
 #[derive(Debug, Drop)]
 pub struct Access {
     pub table: u32,
     pub index: usize,
-    pub tied: List<Tied>,
+    pub keys: List<Key>,
     pub pairs: List<Pair>,
 }
 
@@ -73,11 +79,22 @@ fn agreeing(a: ValueRef<'_>, b: ValueRef<'_>) -> bool
 pub fn matches(access: &Access, row: &Row, stack: &[&Row]) -> bool
     ensures { result ≡ matches_row access.now (lent_rows stack.now) row.now.values }
 {
-    ties_match(access.tied.as_slice(), row, stack) && pairs_match(access.pairs.as_slice(), row)
+    keys_match(access.keys.as_slice(), row, stack) && pairs_match(access.pairs.as_slice(), row)
+}
+
+fn keys_match(keys: &[Key], row: &Row, stack: &[&Row]) -> bool
+    ensures { result ≡ some_agree (lent_rows stack.now) row.now.values keys.now }
+{
+    for key in keys {
+        if ties_match(key.tied.as_slice(), row, stack) {
+            return true;
+        }
+    }
+    false
 }
 
 fn ties_match(tied: &[Tied], row: &Row, stack: &[&Row]) -> bool
-    ensures { result ≡ list_all (λ t. agree (column_value row.now.values t.own) (slot_value (lent_rows stack.now) t.other)) tied.now }
+    ensures { result ≡ ties_agree (lent_rows stack.now) row.now.values tied.now }
 {
     for tie in tied {
         if !agreeing(value_of_own(row, tie.own), slot_in(stack, tie.other)) {
@@ -88,7 +105,7 @@ fn ties_match(tied: &[Tied], row: &Row, stack: &[&Row]) -> bool
 }
 
 fn pairs_match(pairs: &[Pair], row: &Row) -> bool
-    ensures { result ≡ list_all (λ p. agree (column_value row.now.values p.left) (column_value row.now.values p.right)) pairs.now }
+    ensures { result ≡ pairs_agree row.now.values pairs.now }
 {
     for pair in pairs {
         if !agreeing(value_of_own(row, pair.left), value_of_own(row, pair.right)) {

@@ -8,7 +8,8 @@ ghost use Rattle.row_eval.specs.Stages.{found, found_on, visits, visits_on, acce
 
 use crate::access::{Access, matches};
 use crate::frame::{Output, all_hold, output_row_of};
-use crate::index::{Index, code_of_stack, index_at};
+use crate::index::{Index, index_at};
+use crate::places::{places_by_any, places_by_several};
 use crate::source::RowSource;
 use crate::stage::Stage;
 use crate::steps::Steps;
@@ -102,23 +103,15 @@ fn run_join<'r, R: RowSource, L: Ledger>(
     ensures stack { OnOk result (stack.new.items ≡ stack.old.items) }
     ensures steps { steps.new ≤ steps.old + visits_on (visits (R.tables search.now.rows.now) rest.now) (lent_rows stack.old.items) (rows_given (R.tables search.now.rows.now) access.now (lent_rows stack.old.items)) }
 {
-    let Some(code) = code_of_stack(access.tied.as_slice(), stack.as_slice()) else {
-        return Ok(true);
-    };
     let Some(index) = index_at(search.indexes, access.index) else {
         return Ok(true);
     };
-    run_group(
-        rest,
-        access,
-        index.group(code),
-        index.rows.as_slice(),
-        search,
-        aim,
-        stack,
-        out,
-        steps,
-    )
+    let keys = access.keys.as_slice();
+    let groups = index.groups.as_slice();
+    let lent = index.rows.as_slice();
+    let several = places_by_several(search.alloc, keys, groups, lent, stack.as_slice())?;
+    let places = places_by_any(keys, groups, lent, stack.as_slice(), several.as_slice());
+    run_group(rest, access, places, lent, search, aim, stack, out, steps)
 }
 
 /// Runs a stage with each row on top that has one of the places and agrees with the stack.

@@ -1,13 +1,13 @@
-ghost use Rattle.std.specs.Prelude.{◌≡◌, ℕ, ◌+◌, ◌<◌, ◌≤◌, ◌++◌, ◌∷◌, [], cond, IfOk, OnOk, length, slice_get};
+ghost use Rattle.std.specs.Prelude.{◌≡◌, ℕ, ◌+◌, ◌<◌, ◌≤◌, ◌++◌, ◌∷◌, [], cond, IfOk, OnOk, length, slice_get, slice_index_or, false, ◌==◌};
 ghost use Rattle.std.specs.Option.{option_copied};
 ghost use Rattle.std.specs.Hash.FoldHasher as folding;
 ghost use Rattle.std.specs.List.{fold};
 ghost use Rattle.pgq_base.specs.Values.{owned};
 ghost use Rattle.pgq_base.specs.Instances.{rows_at};
 ghost use Rattle.row_eval.specs.Slots.{lent_rows};
-ghost use Rattle.row_eval.specs.Served.{writes, row_code, stack_code, group_in, is_code, IsIndexOf};
+ghost use Rattle.row_eval.specs.Served.{writes, row_code, stack_code, group_in, is_code, is_candidate, shares_code, merge, places_from, IsGroupsOf, AreGroupsOf, IsIndexOf};
 
-use crate::access::{Tied, value_of_own};
+use crate::access::{Key, Tied, value_of_own};
 use crate::frame::slot_in;
 use crate::source::RowSource;
 use crate::steps::Steps;
@@ -17,11 +17,17 @@ use std::collections::HashMap;
 use std::hash::{FoldHasher, Hash, Hasher};
 use std::sync::ledger::Ledger;
 
-/// The rows of a table, and their places by a code of the columns that are tied.
+/// The places of a table's rows by a code of the columns that are tied.
+#[derive(Drop)]
+pub struct Groups {
+    pub places: HashMap<u64, Vec<usize>>,
+}
+
+/// The rows of a table, and their groups by each key.
 #[derive(Drop)]
 pub struct Index<'r> {
     pub rows: Vec<&'r Row>,
-    pub groups: HashMap<u64, Vec<usize>>,
+    pub groups: Vec<Groups>,
 }
 
 fn feed(value: ValueRef<'_>, hasher: &mut FoldHasher)
@@ -81,35 +87,79 @@ fn add_place(
     Ok(())
 }
 
-/// The index of a table. Each row is read once.
+// The rows of a table. Each is read once.
+fn rows_read<'r, R: RowSource, L: Ledger>(
+    alloc: Global,
+    table: u32,
+    rows: &'r R,
+    steps: &mut Steps<L>,
+) -> Result<Vec<&'r Row>, NoMemory>
+    requires { table < length (R.tables rows.now) }
+    ensures lent { IfOk result (λ lent. lent_rows lent.items ≡ rows_at (R.tables rows.now) table) }
+    ensures steps { steps.new ≤ steps.old + length (rows_at (R.tables rows.now) table) }
+{
+    let mut lent = Vec::new(alloc);
+    for place in 0..rows.count(table) {
+        lent.push(rows.row(table, place, steps))?;
+    }
+    Ok(lent)
+}
+
+fn groups_of(alloc: Global, tied: &[Tied], lent: &[&Row]) -> Result<Groups, NoMemory>
+    ensures { IfOk result (IsGroupsOf tied.now (lent_rows lent.now)) }
+{
+    let mut places = HashMap::new(alloc);
+    for place in 0..lent.len() {
+        add_place(&mut places, code_of_row(tied, lent[place]), place)?;
+    }
+    Ok(Groups { places })
+}
+
+fn all_groups(alloc: Global, keys: &[Key], lent: &[&Row]) -> Result<Vec<Groups>, NoMemory>
+    ensures { IfOk result (λ all. AreGroupsOf keys.now (lent_rows lent.now) all.items) }
+{
+    let mut all = Vec::new(alloc);
+    for key in keys {
+        all.push(groups_of(alloc, key.tied.as_slice(), lent)?)?;
+    }
+    Ok(all)
+}
+
+/// The index of a table, with groups for each key. Each row is read once.
 pub fn build_index<'r, R: RowSource, L: Ledger>(
     alloc: Global,
     table: u32,
-    tied: &[Tied],
+    keys: &[Key],
     rows: &'r R,
     steps: &mut Steps<L>,
 ) -> Result<Index<'r>, NoMemory>
     requires { table < length (R.tables rows.now) }
-    ensures index { IfOk result (IsIndexOf tied.now (rows_at (R.tables rows.now) table)) }
+    ensures index { IfOk result (IsIndexOf keys.now (rows_at (R.tables rows.now) table)) }
     ensures steps { steps.new ≤ steps.old + length (rows_at (R.tables rows.now) table) }
 {
-    let mut lent = Vec::new(alloc);
-    let mut groups = HashMap::new(alloc);
-    for place in 0..rows.count(table) {
-        let row = rows.row(table, place, steps);
-        lent.push(row)?;
-        add_place(&mut groups, code_of_row(tied, row), place)?;
-    }
+    let lent = rows_read(alloc, table, rows, steps)?;
+    let groups = all_groups(alloc, keys, lent.as_slice())?;
     Ok(Index { rows: lent, groups })
 }
 
-impl<'r> Index<'r> {
+impl Groups {
     /// The places of the rows under a code.
     pub fn group(&self, code: u64) -> &[usize]
-        ensures { result.now ≡ group_in self.now.groups code }
+        ensures { result.now ≡ group_in self.now.places code }
     {
-        match self.groups.get(&code) {
+        match self.places.get(&code) {
             Some(group) => group.as_slice(),
+            None => &[],
+        }
+    }
+
+    /// The places of the rows that have the code of these by what is tied.
+    pub fn places_of(&self, tied: &[Tied], stack: &[&Row], lent: &[&Row]) -> &[usize]
+        requires { IsGroupsOf tied.now (lent_rows lent.now) self.now }
+        ensures { result.now ≡ places_from (λ row. shares_code (stack_code tied.now (lent_rows stack.now)) (row_code tied.now row)) 0 (lent_rows lent.now) }
+    {
+        match code_of_stack(tied, stack) {
+            Some(code) => self.group(code),
             None => &[],
         }
     }

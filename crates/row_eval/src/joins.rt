@@ -6,9 +6,9 @@ ghost use Rattle.row_eval.specs.Slots.{Stack};
 ghost use Rattle.row_eval.specs.Served.{AllServed};
 ghost use Rattle.row_eval.specs.Stages.{found, visits, accesses};
 ghost use Rattle.row_eval.specs.declared.stage.Stage.TheVariants.{Keep, Join};
-ghost use Rattle.row_eval.specs.Joins.{passed_on, tied_rows, visits_passed};
+ghost use Rattle.row_eval.specs.Joins.{passed_on, tied_rows, narrowed, visits_passed};
 
-use crate::access::Access;
+use crate::access::{Access, Key};
 use crate::frame::Condition;
 use crate::index::{Index, build_index};
 use crate::source::RowSource;
@@ -33,7 +33,7 @@ fn joined(alloc: Global, access: Access, rest: Stage) -> Result<Stage, NoMemory>
     Ok(Stage::Join(access, Boxed::new(alloc, rest)?))
 }
 
-/// Joins the rows of a table at a place, followed by tests, to what follows. Behind the stage stands the index of its
+/// Joins the rows of a table at a place that one of the ways gives, followed by tests, to what follows. Behind the stage stands the index of its
 /// access, which has this number.
 pub fn join_table<'r, R: RowSource, L: Ledger>(
     alloc: Global,
@@ -42,17 +42,18 @@ pub fn join_table<'r, R: RowSource, L: Ledger>(
     number: usize,
     place: usize,
     tests: List<Condition>,
+    ways: &[Key],
     rest: Stage,
     steps: &mut Steps<L>,
 ) -> Result<(Stage, Index<'r>), NoMemory>
     requires { table < length (R.tables rows.now) }
-    ensures found { IfOk result (λ r. (s : Stack) → length s ≡ place → found (R.tables rows.now) r.0 s ≡ passed_on (found (R.tables rows.now) rest) tests s (rows_at (R.tables rows.now) table)) }
-    ensures visits { IfOk result (λ r. (s : Stack) → length s ≡ place → visits (R.tables rows.now) r.0 s ≡ visits_passed (visits (R.tables rows.now) rest) tests s (tied_rows tests s (rows_at (R.tables rows.now) table))) }
+    ensures found { IfOk result (λ r. (s : Stack) → length s ≡ place → found (R.tables rows.now) r.0 s ≡ passed_on (found (R.tables rows.now) rest) tests s (narrowed ways.now s (rows_at (R.tables rows.now) table))) }
+    ensures visits { IfOk result (λ r. (s : Stack) → length s ≡ place → visits (R.tables rows.now) r.0 s ≡ visits_passed (visits (R.tables rows.now) rest) tests s (tied_rows tests s (narrowed ways.now s (rows_at (R.tables rows.now) table)))) }
     ensures served { IfOk result (λ r. (indexes : Seq Built) → number ≡ length indexes → AllServed (R.tables rows.now) indexes (accesses rest) → AllServed (R.tables rows.now) (indexes ++ r.1 ∷ []) (accesses r.0)) }
     ensures steps { steps.new ≤ steps.old + length (rows_at (R.tables rows.now) table) }
 {
-    let access = access_of(alloc, table, number, place, tests.as_slice())?;
-    let index = build_index(alloc, table, access.tied.as_slice(), rows, steps)?;
+    let access = access_of(alloc, table, number, place, tests.as_slice(), ways)?;
+    let index = build_index(alloc, table, access.keys.as_slice(), rows, steps)?;
     let kept = kept_by(alloc, tests, rest)?;
     let stage = joined(alloc, access, kept)?;
     Ok((stage, index))
@@ -65,7 +66,7 @@ pub struct Planned<'r> {
     pub indexes: Vec<Index<'r>>,
 }
 
-/// Joins a table at a place, followed by tests, to what is planned.
+/// Joins the rows of a table at a place that one of the ways gives, followed by tests, to what is planned.
 pub fn join_one<'r, R: RowSource, L: Ledger>(
     alloc: Global,
     rows: &'r R,
@@ -73,11 +74,12 @@ pub fn join_one<'r, R: RowSource, L: Ledger>(
     table: u32,
     place: usize,
     tests: List<Condition>,
+    ways: &[Key],
     steps: &mut Steps<L>,
 ) -> Result<Planned<'r>, NoMemory>
     requires { table < length (R.tables rows.now) }
-    ensures found { IfOk result (λ p. (s : Stack) → length s ≡ place → found (R.tables rows.now) p.stage s ≡ passed_on (found (R.tables rows.now) planned.entry.stage) tests s (rows_at (R.tables rows.now) table)) }
-    ensures visits { IfOk result (λ p. (s : Stack) → length s ≡ place → visits (R.tables rows.now) p.stage s ≡ visits_passed (visits (R.tables rows.now) planned.entry.stage) tests s (tied_rows tests s (rows_at (R.tables rows.now) table))) }
+    ensures found { IfOk result (λ p. (s : Stack) → length s ≡ place → found (R.tables rows.now) p.stage s ≡ passed_on (found (R.tables rows.now) planned.entry.stage) tests s (narrowed ways.now s (rows_at (R.tables rows.now) table))) }
+    ensures visits { IfOk result (λ p. (s : Stack) → length s ≡ place → visits (R.tables rows.now) p.stage s ≡ visits_passed (visits (R.tables rows.now) planned.entry.stage) tests s (tied_rows tests s (narrowed ways.now s (rows_at (R.tables rows.now) table)))) }
     ensures served { IfOk result (λ p. AllServed (R.tables rows.now) planned.entry.indexes.items (accesses planned.entry.stage) → AllServed (R.tables rows.now) p.indexes.items (accesses p.stage)) }
     ensures kept { IfOk result (λ p. (all : Seq Reading) → AllServed (R.tables rows.now) planned.entry.indexes.items all → AllServed (R.tables rows.now) p.indexes.items all) }
     ensures steps { steps.new ≤ steps.old + length (rows_at (R.tables rows.now) table) }
@@ -85,7 +87,7 @@ pub fn join_one<'r, R: RowSource, L: Ledger>(
     let Planned { stage, indexes } = planned;
     let mut indexes = indexes;
     let number = indexes.len();
-    let joined = join_table(alloc, rows, table, number, place, tests, stage, steps)?;
+    let joined = join_table(alloc, rows, table, number, place, tests, ways, stage, steps)?;
     indexes.push(joined.1)?;
     Ok(Planned {
         stage: joined.0,

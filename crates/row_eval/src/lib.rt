@@ -10,6 +10,8 @@ mod index;
 mod joins;
 mod legs;
 mod levels;
+mod narrowing;
+mod places;
 mod planner;
 mod reach;
 mod scope;
@@ -20,6 +22,7 @@ mod steps;
 #[cfg(test)]
 mod tests;
 mod ties;
+mod ways;
 
 pub use evaluator::{EvalStop, MOST_ROWS, evaluate};
 pub use source::RowSource;

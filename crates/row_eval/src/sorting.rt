@@ -7,12 +7,13 @@ ghost use Rattle.sql_algebra.specs.Soundness.{condition_is_sound};
 ghost use Rattle.sql_algebra.specs.Tuples.{members_of, all_members};
 ghost use Rattle.row_eval.specs.Levels.{level_in};
 ghost use Rattle.row_eval.specs.Scopes.{placed, AreBelow};
-ghost use Rattle.row_eval.specs.Sorted.{all_pass, IsSorted, Adds, AddsTest, SortsAll, bare_leg, table_place_of, leg_tables};
+ghost use Rattle.row_eval.specs.Sorted.{all_pass, IsSorted, IsNarrow, Adds, AddsTest, SortsAll, bare_leg, table_place_of, leg_tables, leg_ways};
 ghost use Rattle.row_eval.specs.Plans.{items_in, plain_at, conditions_in};
 
 use crate::frame::Condition;
 use crate::legs::Leg;
 use crate::levels::level;
+use crate::narrowing::narrow;
 use crate::scope::{Reached, place_of_table, resolve_condition};
 use expr_tree::Expr;
 use graph_ast::Catalog;
@@ -47,6 +48,7 @@ fn legs_of(alloc: Global, catalog: &Catalog, items: &[FromItem]) -> Result<Vec<L
         legs.push(Leg {
             table,
             tests: List::new(alloc),
+            ways: List::new(alloc),
         })?;
     }
     Ok(legs)
@@ -59,6 +61,7 @@ fn put_in(sorted: Sorted, condition: Condition, depth: usize) -> Result<Sorted, 
     ensures all { IfOk result (AddsTest condition.expr sorted) }
     ensures sorted { IfOk result (λ r. IsSorted depth r.first r.legs.items) }
     ensures tables { IfOk result (λ r. leg_tables r.legs.items ≡ leg_tables sorted.legs.items) }
+    ensures ways { IfOk result (λ r. leg_ways r.legs.items ≡ leg_ways sorted.legs.items) }
 {
     let Sorted { first, legs } = sorted;
     let number = level(&condition.expr).saturating_sub(depth);
@@ -87,7 +90,9 @@ fn sort_in(
     ensures { IfOk result (Adds catalog.now (placed reach.now) depth (condition.now ∷ []) sorted) }
 {
     let resolved = resolve_condition(alloc, catalog, reach, condition)?;
-    put_in(sorted, resolved, depth)
+    let narrowed = narrow(alloc, sorted, &resolved.expr, depth)?;
+    let done = put_in(narrowed, resolved, depth)?;
+    Ok(done)
 }
 
 fn sort_list(
@@ -202,6 +207,7 @@ pub fn sort_conditions(
     requires below { AreBelow (depth + length select.now.from) (placed reach.now) }
     ensures all { IfOk result (SortsAll catalog.now (placed reach.now) (conditions_in select.now.from select.now.conjuncts)) }
     ensures sorted { IfOk result (λ r. IsSorted depth r.first r.legs.items) }
+    ensures narrow { IfOk result (IsNarrow depth) }
     ensures tables { IfOk result (λ r. leg_tables r.legs.items ≡ map (table_place_of catalog.now) select.now.from) }
 {
     let items = select.from.as_slice();

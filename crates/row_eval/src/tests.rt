@@ -153,12 +153,15 @@ fn numbers(alloc: Global, all: &[i64]) -> Result<Row, NoMemory> {
 
 static PERSONS: [(i64, &str, i64); 3] = [(1, "Ann", 30), (2, "Bob", -1), (3, "Cy", 20)];
 
-static KNOWN: [[i64; 4]; 5] = [
+static KNOWN: [[i64; 4]; 8] = [
     [10, 1, 2, 2000],
     [11, 2, 3, -1],
     [12, 3, 1, 2010],
     [13, 1, 1, 2005],
     [14, 1, 2, 2015],
+    [15, -1, 2, 2001],
+    [16, 3, -1, 2002],
+    [17, -1, -1, 2003],
 ];
 
 fn instance(alloc: Global) -> Result<Instance, NoMemory> {
@@ -309,6 +312,20 @@ fn one_edge(alloc: Global) -> Result<Select, Fail> {
     })
 }
 
+// An edge that begins at the one person and ends at the other.
+fn edge_from(alloc: Global, edge: &str, first: &str, second: &str) -> Result<Cond, Fail> {
+    let begins = equal(alloc, (edge, "A"), (first, "ID"))?;
+    let ends = equal(alloc, (edge, "B"), (second, "ID"))?;
+    Ok(Expr::All(both(alloc, begins, ends)?))
+}
+
+// An edge between two persons in any direction.
+fn edge_between(alloc: Global, edge: &str, first: &str, second: &str) -> Result<Cond, Fail> {
+    let there = edge_from(alloc, edge, first, second)?;
+    let back = edge_from(alloc, edge, second, first)?;
+    Ok(Expr::Any(both(alloc, there, back)?))
+}
+
 // One edge in any direction: an OR in the WHERE.
 fn any_direction(alloc: Global) -> Result<Select, Fail> {
     let mut columns = List::new(alloc);
@@ -318,19 +335,86 @@ fn any_direction(alloc: Global) -> Result<Select, Fail> {
     from.push(item(alloc, "PERSON", "A0")?)?;
     from.push(item(alloc, "KNOWS", "A1")?)?;
     from.push(item(alloc, "PERSON", "A2")?)?;
-    let there = both(
-        alloc,
-        equal(alloc, ("A1", "A"), ("A0", "ID"))?,
-        equal(alloc, ("A1", "B"), ("A2", "ID"))?,
-    )?;
-    let back = both(
-        alloc,
-        equal(alloc, ("A1", "A"), ("A2", "ID"))?,
-        equal(alloc, ("A1", "B"), ("A0", "ID"))?,
-    )?;
-    let ways = both(alloc, Expr::All(there), Expr::All(back))?;
     let mut conjuncts = List::new(alloc);
-    conjuncts.push(Conjunct::Plain(Expr::Any(ways)))?;
+    conjuncts.push(Conjunct::Plain(edge_between(alloc, "A1", "A0", "A2")?))?;
+    Ok(Select {
+        columns,
+        from,
+        conjuncts,
+    })
+}
+
+// Joins an edge in any direction from a person to a further one.
+fn join_edge(
+    alloc: Global,
+    from: &mut List<FromItem>,
+    edge: &str,
+    first: &str,
+    second: &str,
+) -> Result<(), Fail> {
+    let yes = Expr::Lit(Value::Truth(true));
+    from.push(joined(alloc, "KNOWS", edge, yes)?)?;
+    let between = edge_between(alloc, edge, first, second)?;
+    from.push(joined(alloc, "PERSON", second, between)?)?;
+    Ok(())
+}
+
+// One edge in any direction, in the joined form.
+fn any_joined(alloc: Global) -> Result<Select, Fail> {
+    let mut columns = List::new(alloc);
+    columns.push(column(alloc, "A0", "X")?)?;
+    columns.push(column(alloc, "A2", "Y")?)?;
+    let mut from = List::new(alloc);
+    from.push(item(alloc, "PERSON", "A0")?)?;
+    join_edge(alloc, &mut from, "A1", "A0", "A2")?;
+    Ok(Select {
+        columns,
+        from,
+        conjuncts: List::new(alloc),
+    })
+}
+
+// Two edges in any direction, one behind the other.
+fn two_joined(alloc: Global) -> Result<Select, Fail> {
+    let mut columns = List::new(alloc);
+    columns.push(column(alloc, "A0", "X")?)?;
+    columns.push(column(alloc, "A2", "Y")?)?;
+    columns.push(column(alloc, "A4", "Z")?)?;
+    let mut from = List::new(alloc);
+    from.push(item(alloc, "PERSON", "A0")?)?;
+    join_edge(alloc, &mut from, "A1", "A0", "A2")?;
+    join_edge(alloc, &mut from, "A3", "A2", "A4")?;
+    Ok(Select {
+        columns,
+        from,
+        conjuncts: List::new(alloc),
+    })
+}
+
+// The pairs of persons without an edge between them.
+fn apart(alloc: Global) -> Result<Select, Fail> {
+    let mut columns = List::new(alloc);
+    columns.push(SelectColumn {
+        value: Expr::Lit(Value::Number(1)),
+        name: name(alloc, "C")?,
+    })?;
+    let mut from = List::new(alloc);
+    from.push(item(alloc, "KNOWS", "A1")?)?;
+    let mut conjuncts = List::new(alloc);
+    conjuncts.push(Conjunct::Plain(edge_between(alloc, "A1", "A0", "A2")?))?;
+    let inner = Select {
+        columns,
+        from,
+        conjuncts,
+    };
+    let mut columns = List::new(alloc);
+    columns.push(column(alloc, "A0", "X")?)?;
+    columns.push(column(alloc, "A2", "Y")?)?;
+    let mut from = List::new(alloc);
+    from.push(item(alloc, "PERSON", "A0")?)?;
+    from.push(item(alloc, "PERSON", "A2")?)?;
+    let mut conjuncts = List::new(alloc);
+    conjuncts.push(Conjunct::NotExists(Boxed::new(alloc, inner)?))?;
     Ok(Select {
         columns,
         from,
@@ -417,6 +501,38 @@ fn an_edge_in_any_direction_counts_a_self_loop_once(rt: HostRuntime) -> Result<(
     let query = one_of(alloc, any_direction(alloc)?)?;
     let marks = marks_of(alloc, &query)?;
     assert!(rt; marks.as_slice() == [12, 13, 11, 12, 21, 23, 21, 32, 31].as_slice());
+    Ok(())
+}
+
+#[test]
+fn a_joined_edge_in_any_direction_has_the_same_rows(rt: HostRuntime) -> Result<(), Fail> {
+    let alloc = rt.alloc();
+    let query = one_of(alloc, any_joined(alloc)?)?;
+    let marks = marks_of(alloc, &query)?;
+    assert!(rt; marks.as_slice() == [12, 13, 11, 12, 21, 23, 21, 32, 31].as_slice());
+    Ok(())
+}
+
+static TWO_EDGES: [u32; 29] = [
+    121, 123, 121, 132, 131, 112, 113, 111, 112, 121, 123, 121, 212, 213, 211, 212, 232, 231, 212,
+    213, 211, 212, 321, 323, 321, 312, 313, 311, 312,
+];
+
+#[test]
+fn two_edges_in_any_direction_are_joined_in_order(rt: HostRuntime) -> Result<(), Fail> {
+    let alloc = rt.alloc();
+    let query = one_of(alloc, two_joined(alloc)?)?;
+    let marks = marks_of(alloc, &query)?;
+    assert!(rt; marks.as_slice() == TWO_EDGES.as_slice());
+    Ok(())
+}
+
+#[test]
+fn not_exists_looks_in_both_directions(rt: HostRuntime) -> Result<(), Fail> {
+    let alloc = rt.alloc();
+    let query = one_of(alloc, apart(alloc)?)?;
+    let marks = marks_of(alloc, &query)?;
+    assert!(rt; marks.as_slice() == [22, 33].as_slice());
     Ok(())
 }
 

@@ -1,15 +1,16 @@
-use Rattle.std.proofs.Common.{rules, Some, None, ◌≡◌, ◌+◌, ◌≤◌, ◌<◌, ◌++◌, ◌∷◌, [], IfOk, length, ℕ, true, false, sym, ap, ◌∙◌, subst, arith, drop, get_or}
+use Rattle.std.proofs.Common.{rules, ◌≡◌, ◌+◌, ◌≤◌, ◌<◌, ◌++◌, ◌∷◌, [], IfOk, length, true, false, sym, ap, ◌∙◌, subst, arith, drop, get_or}
 use Rattle.pgq_base.specs.declared.rows.Row.{Row}
 use Rattle.row_eval.specs.declared.stage.Stage.TheFolds.{the_lemmas}
 use Rattle.row_eval.specs.Slots.{lent_rows}
 use Rattle.row_eval.specs.Access.{rows_among, matches_row}
-use Rattle.row_eval.specs.Served.{AllServed, IsServed, stack_code, group_in}
+use Rattle.row_eval.specs.Served.{AllServed, IsServed, is_candidate, places_from}
 use Rattle.row_eval.specs.declared.index.Index.{Index}
 use Rattle.pgq_base.specs.Instances.{rows_at}
 use Rattle.row_eval.specs.Stages.{found, found_on, visits, visits_on, all_kept, accesses, Collects}
 use Rattle.expr_tree.proofs.Folds.{parts}
+use Rattle.row_eval.proofs.KeyLemmas.{given_of_places, places_below}
 use Rattle.row_eval.proofs.StageLemmas.{accesses-Join, accesses-Absent}
-use Rattle.row_eval.proofs.RunLemmas.{nothing, found_kept, found_dropped, visits_kept, found_joined, visits_joined, found_absent, none_given, given_of_group, group_below, seen, steps_taken, visits_taken, visits_passed, turn_taken, turn_over, turn_passed, some_copied, none_copied}
+use Rattle.row_eval.proofs.RunLemmas.{nothing, found_kept, found_dropped, visits_kept, found_joined, visits_joined, found_absent, seen, steps_taken, visits_taken, visits_passed, turn_taken, turn_over, turn_passed, some_copied, none_copied}
 use Rattle.std.proofs.lemmas.List.{drop_all}
 use Rattle.std.specs.Prelude.{slice_get}
 use Rattle.std.specs.Borrow.{Bor}
@@ -224,40 +225,39 @@ run_group-returns-clause-collects g t c =
 
 pub run_join-returns-in_default-clause-collects : goal.run_join-returns-in_default-clause-collects
 run_join-returns-in_default-clause-collects g t c =
-    let T = g.R.RowSource.tables c.args.search.now.rows.now in
-    let S = lent_rows c.args.stack.now.items in
-    let none : stack_code c.args.access.now.tied S ≡ None =
-    ap (λ ties. stack_code ties S) (sym c.as_slice.ensures) ∙ ap (λ s. stack_code c.as_slice.result.now (lent_rows s)) (sym c.as_slice-2.ensures.value)
-    ∙ sym c.code_of_stack.ensures ∙ c.in_default.is in
-    nothing c.args.aim.now.outputs.now c.args.aim.now.limit c.args.out.now _ (ap (found_on (found T c.args.rest.now) S) (none_given T c.args.access.now S none))
-
-pub run_join-returns-in_default-index_at-clause-collects : goal.run_join-returns-in_default-index_at-clause-collects
-run_join-returns-in_default-index_at-clause-collects g t c =
     absurd (none_copied c.index_at.result c.requires.here.index
-    (slice_get c.args.search.now.indexes.now c.args.access.now.index) c.index_at.ensures c.requires.here.at c.in_default-index_at.is)
+    (slice_get c.args.search.now.indexes.now c.args.access.now.index) c.index_at.ensures c.requires.here.at c.in_default.is)
 
 pub run_join-run_group-requires : goal.run_join-run_group-requires
 run_join-run_group-requires g t c =
     let T = g.R.RowSource.tables c.args.search.now.rows.now in
-    let same = some_copied c.index_at.result c.in-Some-index_at.index c.requires.here.index
-    (slice_get c.args.search.now.indexes.now c.args.access.now.index) c.index_at.ensures c.requires.here.at c.in-Some-index_at.is in
-    let lent = c.as_slice-3.ensures.value ∙ ap (λ (x : Index). x.rows.items) same in
-    let below = λ (j : ℕ). subst (λ l. j < length l → get_or l j 0 < length (rows_at T c.args.access.now.table))
-    (sym (c.group.ensures ∙ ap (λ (x : Index). group_in x.groups c.in-Some.code) same))
-    (group_below T c.args.access.now c.requires.here.index c.in-Some.code c.requires.here.right j) in
+    let S = lent_rows c.args.stack.now.items in
+    let access = c.args.access.now in
+    let index = c.requires.here.index in
+    let same = some_copied c.index_at.result c.in-Some.index index
+    (slice_get c.args.search.now.indexes.now access.index) c.index_at.ensures c.requires.here.at c.in-Some.is in
+    let lent = c.as_slice-lent.ensures.value ∙ ap (λ (x : Index). x.rows.items) same in
+    let places = c.places_by_any-places.ensures
+    ∙ ap (λ keys. places_from (is_candidate keys (lent_rows c.as_slice-2.result.now)) 0 (lent_rows c.as_slice-lent.result.now)) c.as_slice-keys.ensures
+    ∙ ap (λ s. places_from (is_candidate access.keys (lent_rows s)) 0 (lent_rows c.as_slice-lent.result.now)) c.as_slice-2.ensures.value
+    ∙ ap (λ rows. places_from (is_candidate access.keys S) 0 (lent_rows rows)) lent in
+    let below = places_below T access S index c.requires.here.right c.places_by_any-places.result.now places in
     λ κs w. (search (rules, the_lemmas), (search rules, (search rules, (c.requires.here.table, (ap lent_rows lent ∙ c.requires.here.right.lent, (below, c.requires.rest))))))
 
 pub run_join-returns-clause-collects : goal.run_join-returns-clause-collects
 run_join-returns-clause-collects g t c =
     let T = g.R.RowSource.tables c.args.search.now.rows.now in
     let S = lent_rows c.args.stack.now.items in
-    let same = some_copied c.index_at.result c.in-Some-index_at.index c.requires.here.index
-    (slice_get c.args.search.now.indexes.now c.args.access.now.index) c.index_at.ensures c.requires.here.at c.in-Some-index_at.is in
-    let code : stack_code c.args.access.now.tied S ≡ Some c.in-Some.code =
-    ap (λ ties. stack_code ties S) (sym c.as_slice.ensures) ∙ ap (λ s. stack_code c.as_slice.result.now (lent_rows s)) (sym c.as_slice-2.ensures.value)
-    ∙ sym c.code_of_stack.ensures ∙ c.in-Some.is in
-    let rows = ap (rows_among T c.args.access.now S) (c.group.ensures ∙ ap (λ (x : Index). group_in x.groups c.in-Some.code) same)
-    ∙ given_of_group T c.args.access.now S c.requires.here.index c.in-Some.code c.requires.here.right code in
+    let access = c.args.access.now in
+    let index = c.requires.here.index in
+    let same = some_copied c.index_at.result c.in-Some.index index
+    (slice_get c.args.search.now.indexes.now access.index) c.index_at.ensures c.requires.here.at c.in-Some.is in
+    let lent = c.as_slice-lent.ensures.value ∙ ap (λ (x : Index). x.rows.items) same in
+    let places = c.places_by_any-places.ensures
+    ∙ ap (λ keys. places_from (is_candidate keys (lent_rows c.as_slice-2.result.now)) 0 (lent_rows c.as_slice-lent.result.now)) c.as_slice-keys.ensures
+    ∙ ap (λ s. places_from (is_candidate access.keys (lent_rows s)) 0 (lent_rows c.as_slice-lent.result.now)) c.as_slice-2.ensures.value
+    ∙ ap (λ rows. places_from (is_candidate access.keys S) 0 (lent_rows rows)) lent in
+    let rows = given_of_places T access S index c.requires.here.right c.places_by_any-places.result.now places in
     subst (λ x. IfOk c.run_group.result
     (Collects c.args.aim.now.outputs.now c.args.aim.now.limit c.args.out.now c.run_group.new.out (found_on (found T c.args.rest.now) S x))) rows c.run_group.ensures.collects
 
@@ -265,11 +265,14 @@ pub run_join-returns-clause-steps : goal.run_join-returns-clause-steps
 run_join-returns-clause-steps g t c =
     let T = g.R.RowSource.tables c.args.search.now.rows.now in
     let S = lent_rows c.args.stack.now.items in
-    let same = some_copied c.index_at.result c.in-Some-index_at.index c.requires.here.index
-    (slice_get c.args.search.now.indexes.now c.args.access.now.index) c.index_at.ensures c.requires.here.at c.in-Some-index_at.is in
-    let code : stack_code c.args.access.now.tied S ≡ Some c.in-Some.code =
-    ap (λ ties. stack_code ties S) (sym c.as_slice.ensures) ∙ ap (λ s. stack_code c.as_slice.result.now (lent_rows s)) (sym c.as_slice-2.ensures.value)
-    ∙ sym c.code_of_stack.ensures ∙ c.in-Some.is in
-    let rows = ap (rows_among T c.args.access.now S) (c.group.ensures ∙ ap (λ (x : Index). group_in x.groups c.in-Some.code) same)
-    ∙ given_of_group T c.args.access.now S c.requires.here.index c.in-Some.code c.requires.here.right code in
+    let access = c.args.access.now in
+    let index = c.requires.here.index in
+    let same = some_copied c.index_at.result c.in-Some.index index
+    (slice_get c.args.search.now.indexes.now access.index) c.index_at.ensures c.requires.here.at c.in-Some.is in
+    let lent = c.as_slice-lent.ensures.value ∙ ap (λ (x : Index). x.rows.items) same in
+    let places = c.places_by_any-places.ensures
+    ∙ ap (λ keys. places_from (is_candidate keys (lent_rows c.as_slice-2.result.now)) 0 (lent_rows c.as_slice-lent.result.now)) c.as_slice-keys.ensures
+    ∙ ap (λ s. places_from (is_candidate access.keys (lent_rows s)) 0 (lent_rows c.as_slice-lent.result.now)) c.as_slice-2.ensures.value
+    ∙ ap (λ rows. places_from (is_candidate access.keys S) 0 (lent_rows rows)) lent in
+    let rows = given_of_places T access S index c.requires.here.right c.places_by_any-places.result.now places in
     subst (λ x. c.run_group.new.steps ≤ c.args.steps.now + visits_on (visits T c.args.rest.now) S x) rows c.run_group.ensures.steps

@@ -34,7 +34,7 @@ returns-clause-found g c =
     joins_plan c.args.planner.now.catalog.now
     (g.R.RowSource.tables c.args.planner.now.rows.now) c.requires.meets c.args.select.now c.args.outer.now c.args.reach.now c.requires.sound c.requires.below c.requires.reach
     c.in_ok-sorted.sorted c.args.end.stage c.in_ok-joined.joined.stage c.in_ok-stage.stage c.in_ok-stage.ensures c.in_ok-joined.ensures.found c.requires.end small
-    c.in_ok-sorted.ensures.sorted c.in_ok-sorted.ensures.tables c.in_ok-sorted.ensures.all
+    c.in_ok-sorted.ensures.sorted c.in_ok-sorted.ensures.narrow c.in_ok-sorted.ensures.tables c.in_ok-sorted.ensures.all
 
 pub returns-clause-within : goal.returns-clause-within
 returns-clause-within g c =

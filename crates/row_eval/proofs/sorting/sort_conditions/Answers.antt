@@ -9,7 +9,7 @@ use Rattle.row_eval.specs.declared.sorting.Sorted.{Sorted}
 use Rattle.row_eval.specs.Scopes.{placed}
 use Rattle.row_eval.specs.Sorted.{IsSorted, SortsAll, table_place_of}
 use Rattle.row_eval.specs.Plans.{plain_at}
-use Rattle.row_eval.proofs.SortLemmas.{bare_sorted, all_sorted, sorted_tables, if_ok}
+use Rattle.row_eval.proofs.SortLemmas.{bare_sorted, all_sorted, sorted_tables, sorted_narrow, if_ok}
 use Rattle.row_eval.proofs.sorting.sort_conditions.Goals as goal
 
 pub sort_ons-requires-clause-sorted : goal.sort_ons-requires-clause-sorted
@@ -41,4 +41,15 @@ returns-clause-tables c =
     (λ r h. sorted_tables c.args.catalog.now (placed c.args.reach.now) c.args.depth items (all_members items)
     (plain conjuncts) bare c.in_ok-half.half r c.in_ok-legs_of.ensures c.in_ok-half.ensures h
     ∙ ap (map (table_place_of c.args.catalog.now)) c.as_slice-items.ensures)
+    c.sort_plain.ensures
+
+pub returns-clause-narrow : goal.returns-clause-narrow
+returns-clause-narrow c =
+    let items = c.as_slice-items.result.now in
+    let conjuncts = c.as_slice-conjuncts.result.now in
+    let bare : Sorted = record { first = c.new.result; legs = c.in_ok-legs_of.field-0 } in
+    let plain = λ (all : List Conjunct). flat_map (λ conjunct. plain_at (out-Conjunct conjunct)) all in
+    if_ok c.sort_plain.result _ _
+    (λ r h. sorted_narrow c.args.catalog.now (placed c.args.reach.now) c.args.depth items (all_members items)
+    (plain conjuncts) bare c.in_ok-half.half r c.in_ok-legs_of.ensures c.in_ok-half.ensures h)
     c.sort_plain.ensures
