@@ -14,3 +14,7 @@ pub mod PlacedTables
 pub mod PlacedTexts
 pub mod RowWidths
 pub mod Translated
+pub mod SameRows
+pub mod SampleCounts
+pub mod SampledRuns
+pub mod TranslatableQueries

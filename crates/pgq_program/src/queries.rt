@@ -1,7 +1,8 @@
-ghost use Rattle.std.specs.Prelude.{◌≡◌, ◌≤◌, length, IfErr};
+ghost use Rattle.std.specs.Prelude.{◌≡◌, ◌≤◌, length, IfOk, IfErr};
 ghost use Rattle.std.specs.List.{AllByRecursion};
 ghost use Rattle.graph_ast.specs.Catalogs.{IsValidCatalog};
 ghost use Rattle.graph_ast.specs.Patterns.{IsJoined};
+ghost use Rattle.query_lowering.specs.Translatable.{IsTranslatable};
 ghost use Rattle.sql_lexer.specs.Spans.{RefusalLiesIn};
 ghost use Rattle.pgq_program.specs.Queries.{not_served, IsJudged, IsQueryRead};
 ghost use Rattle.pgq_program.specs.Texts.{GivesDue};
@@ -10,6 +11,7 @@ use graph_ast::{Catalog, CheckedQuery, QueryTree};
 use pattern_check::{check_query, is_served};
 use pattern_parser::parse_query;
 use pgq_base::{Code, Detail, Refusal, Role, Span, Stop};
+use plain_queries::makes_translatable;
 use sql_lexer::lex;
 use std::alloc::Global;
 
@@ -35,7 +37,8 @@ fn judge(alloc: Global, catalog: &Catalog, tree: &QueryTree) -> Result<CheckedQu
     check_query(alloc, catalog, tree)
 }
 
-/// The query that a query text that is not too large stands for in a catalog. A refusal names a part of the text.
+/// The query that a query text that is not too large stands for in a catalog. It can be written as SQL; a refusal names
+/// a part of the text.
 pub(crate) fn read_checked(
     alloc: Global,
     catalog: &Catalog,
@@ -44,9 +47,11 @@ pub(crate) fn read_checked(
     requires small { length text.now ≤ 1048576 }
     requires valid { IsValidCatalog catalog.now }
     ensures due { GivesDue (IsQueryRead catalog.now text.now) result }
+    ensures translatable { IfOk result (λ query. IsTranslatable catalog.now query) }
     ensures in_text { IfErr result (RefusalLiesIn (length text.now)) }
 {
     let tokens = lex(alloc, text, Role::Query)?;
     let tree = parse_query(alloc, tokens.as_slice(), text.len() as u32)?;
+    makes_translatable()?;
     judge(alloc, catalog, &tree)
 }

@@ -3,6 +3,7 @@ ghost use Rattle.multisets.specs.Bags.{IsIn};
 ghost use Rattle.edge_meaning.specs.Queries.{IsGraph, IsPattern, IsOfPattern};
 ghost use Rattle.graph_ast.specs.Catalogs.{IsValidCatalog};
 ghost use Rattle.pgq_base.specs.Files.{IsAsked};
+ghost use Rattle.query_lowering.specs.Translatable.{IsTranslatable};
 ghost use Rattle.pgq_program.specs.Chains.{Only};
 ghost use Rattle.pgq_program.specs.Commands.Asked.{OfTranslate, OfCheck, OfCheckQuery};
 ghost use Rattle.pgq_program.specs.Commands.{command_of, MayBeUsage};
@@ -15,6 +16,8 @@ use crate::evaluating::eval;
 use crate::halt::Halt;
 use crate::lines::put_number;
 use crate::queries::read_checked;
+use crate::running::run;
+use crate::sampling::sample;
 use crate::schemas::read_catalog;
 use crate::texts::{TEXT_LIMIT, sql_text, too_large};
 use crate::words::{Command, read_words};
@@ -158,10 +161,16 @@ fn check<F: Shelf>(alloc: Global, files: &mut F, schema: &str) -> Result<List<u8
     Ok(text)
 }
 
-fn query_in(alloc: Global, catalog: &Catalog, text: &[u8]) -> Result<CheckedQuery, Halt>
+/// The query that a query text that is not too large stands for in a catalog.
+pub(crate) fn query_in(
+    alloc: Global,
+    catalog: &Catalog,
+    text: &[u8],
+) -> Result<CheckedQuery, Halt>
     requires small { length text.now ≤ 1048576 }
     requires valid { IsValidCatalog catalog.now }
     ensures due { StepGives (Halted (IsQueryRead catalog.now text.now)) result }
+    ensures translatable { IfOk result (λ query. IsTranslatable catalog.now query) }
     ensures never { IsErrOf result Halt.Usage → ⊥ }
     ensures calm { IsErrOf result Halt.ReadFault → ⊥ }
 {
@@ -172,7 +181,8 @@ fn query_in(alloc: Global, catalog: &Catalog, text: &[u8]) -> Result<CheckedQuer
     }
 }
 
-fn query_at<F: Shelf>(
+/// The query of the query file in a catalog.
+pub(crate) fn query_at<F: Shelf>(
     alloc: Global,
     files: &mut F,
     catalog: &Catalog,
@@ -184,6 +194,7 @@ fn query_at<F: Shelf>(
     ensures files { F.files files.new ≡ F.files files.old }
     ensures cause { HaltCause (F.faults files.old) (F.faults files.new) result }
     ensures told { IfSome (F.files files.old) (λ told. StepGives (IsQueryAt catalog.now name.now told) result) }
+    ensures translatable { IfOk result (λ query. IsTranslatable catalog.now query) }
     ensures never { IsErrOf result Halt.Usage → ⊥ }
 {
     let text = text_of(alloc, files, Role::Query, name)?;
@@ -256,8 +267,12 @@ pub(crate) fn answer<F: Shelf>(
         Some(Command::Translate(schema, query)) => translate(alloc, files, schema, query),
         Some(Command::Check(schema)) => check(alloc, files, schema),
         Some(Command::CheckQuery(schema, query)) => check_with_query(alloc, files, schema, query),
+        Some(Command::Run(schema, query, tables)) => {
+            run(alloc, files, schema, query, tables.as_slice())
+        }
         Some(Command::Eval(schema, sql, tables)) => {
             eval(alloc, files, schema, sql, tables.as_slice())
         }
+        Some(Command::Sample(count)) => sample(alloc, count),
     }
 }
