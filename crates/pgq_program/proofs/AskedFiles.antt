@@ -6,7 +6,8 @@ use Rattle.pgq_base.specs.declared.memory.NoMemory.{NoMemory}
 use Rattle.table_words.specs.declared.word.TableWord.{TableWord}
 use Rattle.table_words.specs.TableWords.{table_words}
 use Rattle.pgq_program.specs.declared.words.Command.{Command}
-use Rattle.pgq_program.specs.Commands.{Asked, view, command_of, of_two, no_more, Asks}
+use Rattle.pgq_program.specs.Commands.{Asked, view, command_of, sample_count, of_one, of_two, of_more, no_more, over_tables, Asks}
+use Rattle.pgq_program.proofs.SampleCounts.{count_within}
 
 same_bytes : (a b : List ℕ) → bytes_eq a b ≡ true → a ≡ b
 same_bytes a b h = (bytes_decides a b).0 h
@@ -36,6 +37,9 @@ check_differs h = cc
 translate_differs : codes "translate" ≡ sample_word → ⊥
 translate_differs h = cc
 
+run_differs : codes "run" ≡ sample_word → ⊥
+run_differs h = cc
+
 eval_differs : codes "eval" ≡ sample_word → ⊥
 eval_differs h = cc
 
@@ -46,9 +50,15 @@ FilesAsked = (words : List (List ℕ)) (asked : List TableWord) → (slice_get w
 abbrev Held : List (List ℕ) → Option Asked → Type 0
 Held words asked = IfSome asked (λ asked. Asks asked words)
 
-by_check : (command a : List ℕ) (b : Bool) → bytes_eq command (codes "check") ≡ b → Held (command ∷ a ∷ []) (cond b (Some (Asked.OfCheck a)) None)
-by_check command a true h = second command a [] (no_sample command (codes "check") h check_differs)
-by_check command a false h = tt
+by_count : (words : List (List ℕ)) (a : List ℕ) (count : Option ℕ) → sample_count a ≡ count → Held words (option_map (λ count. Asked.OfSample count) count)
+by_count words a None is = tt
+by_count words a (Some count) is = count_within a count is
+
+by_one : (command a : List ℕ) (c s : Bool) → bytes_eq command (codes "check") ≡ c
+    → Held (command ∷ a ∷ []) (cond c (Some (Asked.OfCheck a)) (cond s (option_map (λ count. Asked.OfSample count) (sample_count a)) None))
+by_one command a true s h = second command a [] (no_sample command (codes "check") h check_differs)
+by_one command a false true h = by_count (command ∷ a ∷ []) a (sample_count a) refl
+by_one command a false false h = tt
 
 by_two : (command a b : List ℕ) (t c : Bool) → bytes_eq command (codes "translate") ≡ t → bytes_eq command (codes "check") ≡ c
     → Held (command ∷ a ∷ b ∷ []) (cond t (Some (Asked.OfTranslate a b)) (cond c (Some (Asked.OfCheckQuery a b)) None))
@@ -60,24 +70,36 @@ by_more : (command a b : List ℕ) (more : List (List ℕ)) → Held (command �
 by_more command a b [] = by_two command a b (bytes_eq command (codes "translate")) (bytes_eq command (codes "check")) refl refl
 by_more command a b (word ∷ more) = tt
 
-by_tables : (command a b : List ℕ) (more : List (List ℕ)) → FilesAsked → bytes_eq command (codes "eval") ≡ true → (tables : Option (List TableWord)) → table_words more ≡ tables
-    → Held (command ∷ a ∷ b ∷ more) (option_map (λ tables. Asked.OfEval a b tables) tables)
-unfolding NotSample
-by_tables command a b more files h None is = tt
-by_tables command a b more files h (Some tables) is =
-    let never : NotSample command = no_sample command (codes "eval") h eval_differs in
-    (second command a (b ∷ more) never, third command a b more never, files (command ∷ a ∷ b ∷ more) tables (λ e. never (first_is command sample_word e)) is)
+-- a command over the tables of some words
+module _ (command a b : List ℕ) (more : List (List ℕ)) (files : FilesAsked) where
+  abbrev AllAsked : List TableWord → Type 0
+  AllAsked tables = IsAsked a (command ∷ a ∷ b ∷ more) × IsAsked b (command ∷ a ∷ b ∷ more) × All (λ (table : TableWord). IsAsked table.file (command ∷ a ∷ b ∷ more)) tables
 
-by_eval : (command a b : List ℕ) (more : List (List ℕ)) → FilesAsked → (e : Bool) → bytes_eq command (codes "eval") ≡ e
-    → Held (command ∷ a ∷ b ∷ more) (cond e (option_map (λ tables. Asked.OfEval a b tables) (table_words more)) (no_more (of_two command a b) more))
-by_eval command a b more files true h = by_tables command a b more files h (table_words more) refl
-by_eval command a b more files false h = by_more command a b more
+  all_asked : (word : List ℕ) → bytes_eq command word ≡ true → (word ≡ sample_word → ⊥) → (tables : List TableWord) → table_words more ≡ Some tables → AllAsked tables
+  unfolding NotSample
+  all_asked word h differ tables is =
+      let never : NotSample command = no_sample command word h differ in
+      (second command a (b ∷ more) never, third command a b more never, files (command ∷ a ∷ b ∷ more) tables (λ e. never (first_is command sample_word e)) is)
+
+  by_eval : bytes_eq command (codes "eval") ≡ true → (tables : Option (List TableWord)) → table_words more ≡ tables → Held (command ∷ a ∷ b ∷ more) (option_map (λ tables. Asked.OfEval a b tables) tables)
+  by_eval h None is = tt
+  by_eval h (Some tables) is = all_asked (codes "eval") h eval_differs tables is
+
+  by_run : bytes_eq command (codes "run") ≡ true → (tables : Option (List TableWord)) → table_words more ≡ tables → Held (command ∷ a ∷ b ∷ more) (option_map (λ tables. Asked.OfRun a b tables) tables)
+  by_run h None is = tt
+  by_run h (Some tables) is = all_asked (codes "run") h run_differs tables is
+
+  by_tables : (e r : Bool) → bytes_eq command (codes "eval") ≡ e → bytes_eq command (codes "run") ≡ r
+      → Held (command ∷ a ∷ b ∷ more) (cond e (over_tables (Asked.OfEval a b) more) (cond r (over_tables (Asked.OfRun a b) more) (no_more (of_two command a b) more)))
+  by_tables true r h k = by_eval h (table_words more) refl
+  by_tables false true h k = by_run k (table_words more) refl
+  by_tables false false h k = by_more command a b more
 
 held : FilesAsked → (words : List (List ℕ)) → Held words (command_of words)
 held files [] = tt
 held files (command ∷ []) = tt
-held files (command ∷ a ∷ []) = by_check command a (bytes_eq command (codes "check")) refl
-held files (command ∷ a ∷ b ∷ more) = by_eval command a b more files (bytes_eq command (codes "eval")) refl
+held files (command ∷ a ∷ []) = by_one command a (bytes_eq command (codes "check")) (bytes_eq command (codes "sample")) refl
+held files (command ∷ a ∷ b ∷ more) = by_tables command a b more files (bytes_eq command (codes "eval")) (bytes_eq command (codes "run")) refl refl
 
 shown : (words : List (List ℕ)) (asked : Option Command) → Held words (option_map view asked) → IfSome asked (λ command. Asks (view command) words)
 shown words None h = tt

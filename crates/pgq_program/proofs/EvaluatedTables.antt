@@ -10,7 +10,6 @@ use Rattle.sql_lexer.specs.declared.token.Token.{Token}
 use Rattle.sql_lexer.specs.Texts.{AreTokens, most_tokens}
 use Rattle.graph_ast.specs.declared.catalog.Catalog.{Catalog}
 use Rattle.sql_algebra.specs.declared.tree.SqlQuery.{SqlQuery}
-use Rattle.sql_algebra.specs.Meaning.{names_of}
 use Rattle.sql_parser.specs.Outcomes.{IfRefused, IsFirstFault}
 use Rattle.sql_reader.specs.Reading.{IsRead}
 use Rattle.table_words.specs.declared.word.TableWord.{TableWord}
@@ -18,11 +17,11 @@ use Rattle.table_files.specs.TablePlaces.{table_places}
 use Rattle.table_loads.specs.Loads.{instance_at}
 use Rattle.pgq_program.specs.declared.halt.Halt.{Halt}
 use Rattle.pgq_program.specs.declared.halt.Halt.TheVariants as h
-use Rattle.pgq_program.specs.Chains.{Only}
+use Rattle.pgq_program.specs.Chains.{Then, Only}
 use Rattle.pgq_program.specs.Halts.{halting, tables_halting, places_or}
 use Rattle.pgq_program.specs.Outcomes.{Outcome}
-use Rattle.pgq_program.specs.Rows.{IsSqlRead, WritesTable, rows_due}
-use Rattle.pgq_program.specs.Steps.{StepGives, StepWrites, Halted, IsCatalogAt, IsSqlAt, rows_at, IsTableAt, IsTableOf, text_at}
+use Rattle.pgq_program.specs.Rows.{IsSqlRead, WritesTable}
+use Rattle.pgq_program.specs.Steps.{StepGives, StepWrites, Halted, IsCatalogAt, IsSqlAt, text_at}
 use Rattle.pgq_program.specs.Texts.{GivesDue, next}
 
 -- what the SQL rules answer of the tokens
@@ -51,21 +50,21 @@ in_file catalog name text (Some told) r e seen same k = by r (subst (λ t. StepG
     by (Err h.ReadFault) k = tt
     by (Err h.NoMemory) k = tt
 
--- the instance, and then the rows of the query over it
-module _ (catalog : Catalog) (query : SqlQuery) (words : List TableWord) (places : List ℕ) where
+-- the instance, and then the rows that are due over it, under their names
+module _ (catalog : Catalog) (words : List TableWord) (places : List ℕ) (names : List (List ℕ)) (due : InstanceRows → Result TableRows Refusal) where
   abbrev pub Reads : Result InstanceRows Halt → List (List ℕ × List ℕ) → Type 0
   Reads r told = StepGives (Only (tables_halting (instance_at catalog told words places))) r
 
   abbrev pub WritesAt : Result (List ℕ) Halt → List (List ℕ × List ℕ) → Type 0
-  WritesAt r told = WritesTable (names_of query) (rows_at catalog query words places told) r
+  WritesAt r told = WritesTable names (next (tables_halting (instance_at catalog told words places)) (λ instance. halting (due instance))) r
 
   pub with_instance : (files : Option (List (List ℕ × List ℕ))) (instance : InstanceRows) (r : Result (List ℕ) Halt) → IfSome files (Reads (Ok instance))
-      → WritesTable (names_of query) (halting (rows_due Sql catalog query instance)) r → IfSome files (WritesAt r)
+      → WritesTable names (halting (due instance)) r → IfSome files (WritesAt r)
   with_instance None instance r e k = tt
-  with_instance (Some told) instance r e k = subst (λ due. WritesTable (names_of query) due r) (sym (ap (λ i. next i (λ instance. halting (rows_due Sql catalog query instance))) e)) k
+  with_instance (Some told) instance r e k = subst (λ rows. WritesTable names rows r) (sym (ap (λ i. next i (λ instance. halting (due instance))) e)) k
 
   refused_instance : (told : List (List ℕ × List ℕ)) (e : Halt) → Reads (Err e) told → (e ≡ h.Usage → ⊥) → WritesAt (Err e) told
-  refused_instance told (h.Refused refusal) k never = ap (λ i. next i (λ instance. halting (rows_due Sql catalog query instance))) k
+  refused_instance told (h.Refused refusal) k never = ap (λ i. next i (λ instance. halting (due instance))) k
   refused_instance told h.Usage k never = absurd (never refl)
   refused_instance told h.ReadFault k never = tt
   refused_instance told h.NoMemory k never = tt
@@ -75,39 +74,37 @@ module _ (catalog : Catalog) (query : SqlQuery) (words : List TableWord) (places
   without_instance (Some told) e (Ok text) is k never = absurd is
   without_instance (Some told) e (Err x) is k never = let P : Halt → Type 0 = λ x. WritesAt (Err x) told in subst P (sym is) (refused_instance told e k never)
 
--- the query, and then its table
-pub with_query : (catalog : Catalog) (query : SqlQuery) (words : List TableWord) (places sql : List ℕ) (files : Option (List (List ℕ × List ℕ))) (r : Result (List ℕ) Halt)
-    → IfSome files (λ told. StepGives (IsSqlAt catalog sql told) (Ok query))
-    → IfSome files (λ told. WritesTable (names_of query) (rows_at catalog query words places told) r) → IfSome files (λ told. StepWrites (IsTableAt catalog words places sql told) r)
-with_query catalog query words places sql None r e k = tt
-with_query catalog query words places sql (Some told) r e k = by r k
-  where
-    by : (r : Result (List ℕ) Halt) → WritesTable (names_of query) (rows_at catalog query words places told) r → StepWrites (IsTableAt catalog words places sql told) r
-    by (Ok text) (rows, due, is) = (Outcome.Table (names_of query) rows, (query, e, (rows, due, refl)), is)
-    by (Err (h.Refused refusal)) due = inr (query, e, inl due)
-    by (Err h.Usage) k = absurd k
-    by (Err h.ReadFault) k = tt
-    by (Err h.NoMemory) k = tt
+-- a query, and then the table of its rows under its names
+module _ {Q : Type 0} (first : List (List ℕ × List ℕ) → Result Q Halt → Type 0) (names : Q → List (List ℕ)) (rows : Q → List (List ℕ × List ℕ) → Result TableRows Halt) where
+  abbrev pub IsTable : List (List ℕ × List ℕ) → Result Outcome Halt → Type 0
+  IsTable told answer = Then (first told) (λ query. Then (Only (rows query told)) (λ table. Only (Ok (Outcome.Table (names query) table)))) answer
 
--- a query that is refused
-pub without_query : (catalog : Catalog) (words : List TableWord) (places sql : List ℕ) (files : Option (List (List ℕ × List ℕ))) (e : Halt)
-    → IfSome files (λ told. StepGives (IsSqlAt catalog sql told) (Err e)) → ((let r : Result SqlQuery Halt = Err e in IsErrOf r h.Usage) → ⊥) → IfSome files (λ told. StepWrites (IsTableAt catalog words places sql told) (Err e))
-without_query catalog words places sql None e k never = tt
-without_query catalog words places sql (Some told) (h.Refused refusal) k never = inl k
-without_query catalog words places sql (Some told) h.Usage k never = inl k
-without_query catalog words places sql (Some told) h.ReadFault k never = tt
-without_query catalog words places sql (Some told) h.NoMemory k never = tt
+  pub with_query : (query : Q) (files : Option (List (List ℕ × List ℕ))) (r : Result (List ℕ) Halt) → IfSome files (λ told. StepGives (first told) (Ok query))
+      → IfSome files (λ told. WritesTable (names query) (rows query told) r) → IfSome files (λ told. StepWrites (IsTable told) r)
+  with_query query None r e k = tt
+  with_query query (Some told) r e k = by r k
+    where
+      by : (r : Result (List ℕ) Halt) → WritesTable (names query) (rows query told) r → StepWrites (IsTable told) r
+      by (Ok text) (table, due, is) = (Outcome.Table (names query) table, (query, e, (table, due, refl)), is)
+      by (Err (h.Refused refusal)) due = inr (query, e, inl due)
+      by (Err h.Usage) k = absurd k
+      by (Err h.ReadFault) k = tt
+      by (Err h.NoMemory) k = tt
 
 -- the catalog and the places of the tables, and then the rest
-pub with_places : (catalog : Catalog) (words : List TableWord) (places schema sql : List ℕ) (files : Option (List (List ℕ × List ℕ))) (r : Result (List ℕ) Halt)
-    → IfSome files (λ told. StepGives (IsCatalogAt schema told) (Ok catalog)) → StepGives (Only (places_or (table_places catalog words))) (Ok places)
-    → (seen : List ℕ) → seen ≡ places → IfSome files (λ told. StepWrites (IsTableAt catalog words seen sql told) r) → IfSome files (λ told. StepWrites (IsTableOf schema sql words told) r)
-with_places catalog words places schema sql None r e p seen same k = tt
-with_places catalog words places schema sql (Some told) r e p seen same k = by r (subst (λ l. StepWrites (IsTableAt catalog words l sql told) r) same k)
-  where
-    by : (r : Result (List ℕ) Halt) → StepWrites (IsTableAt catalog words places sql told) r → StepWrites (IsTableOf schema sql words told) r
-    by (Ok text) (outcome, due, is) = (outcome, (catalog, e, (places, p, due)), is)
-    by (Err (h.Refused refusal)) due = inr (catalog, e, inr (places, p, due))
-    by (Err h.Usage) due = inr (catalog, e, inr (places, p, due))
-    by (Err h.ReadFault) k = tt
-    by (Err h.NoMemory) k = tt
+module _ (schema : List ℕ) (words : List TableWord) (rest : Catalog → List ℕ → List (List ℕ × List ℕ) → Result Outcome Halt → Type 0) where
+  abbrev pub IsOver : List (List ℕ × List ℕ) → Result Outcome Halt → Type 0
+  IsOver told answer = Then (IsCatalogAt schema told) (λ catalog. Then (Only (places_or (table_places catalog words))) (λ places. rest catalog places told)) answer
+
+  pub with_places : (catalog : Catalog) (places : List ℕ) (files : Option (List (List ℕ × List ℕ))) (r : Result (List ℕ) Halt)
+      → IfSome files (λ told. StepGives (IsCatalogAt schema told) (Ok catalog)) → StepGives (Only (places_or (table_places catalog words))) (Ok places)
+      → (seen : List ℕ) → seen ≡ places → IfSome files (λ told. StepWrites (rest catalog seen told) r) → IfSome files (λ told. StepWrites (IsOver told) r)
+  with_places catalog places None r e p seen same k = tt
+  with_places catalog places (Some told) r e p seen same k = by r (subst (λ l. StepWrites (rest catalog l told) r) same k)
+    where
+      by : (r : Result (List ℕ) Halt) → StepWrites (rest catalog places told) r → StepWrites (IsOver told) r
+      by (Ok text) (outcome, due, is) = (outcome, (catalog, e, (places, p, due)), is)
+      by (Err (h.Refused refusal)) due = inr (catalog, e, inr (places, p, due))
+      by (Err h.Usage) due = inr (catalog, e, inr (places, p, due))
+      by (Err h.ReadFault) k = tt
+      by (Err h.NoMemory) k = tt

@@ -16,3 +16,7 @@ pub mod RowWidths
 pub mod TextsDue
 pub mod TranslatableQueries
 pub mod Translated
+pub mod SameRows
+pub mod SampleCounts
+pub mod SampledRuns
+pub mod TranslatableQueries

@@ -28,9 +28,13 @@ use Rattle.pgq_program.specs.Commands.{Asked}
 use Rattle.pgq_program.specs.Outcomes.{Outcome}
 use Rattle.pgq_program.specs.Queries.{served, IsJudged, IsQueryRead}
 use Rattle.pgq_program.specs.Rows.{IsSqlRead}
-use Rattle.pgq_program.specs.Halts.{places_or}
+use Rattle.graph_meaning.specs.Answers.{names}
+use Rattle.sample_run.specs.SampleCatalog.{sample_catalog}
+use Rattle.sample_run.specs.SampleRun.{sample_query, sample_rows}
+use Rattle.pgq_program.specs.Halts.{halting, places_or}
+use Rattle.pgq_program.specs.Running.{answer_due, summary_of}
 use Rattle.pgq_program.specs.Schemas.{IsLexed, IsChecked, IsRead}
-use Rattle.pgq_program.specs.Steps.{Halted, IsCatalogAt, IsQueryAt, IsCheckedAt, IsTranslationIn, IsTranslationOf, IsSqlAt, rows_at, IsTableAt, IsTableOf, Owes, text_at}
+use Rattle.pgq_program.specs.Steps.{Halted, IsCatalogAt, IsQueryAt, IsCheckedAt, IsTranslationIn, IsTranslationOf, IsSqlAt, rows_at, IsTableAt, IsTableOf, answer_at, IsAnswerAt, IsAnswerOf, IsSampled, Owes, text_at}
 use Rattle.pgq_program.specs.Texts.{sized, IsSchemaDue, IsQueryDue, IsPairDue, IsTextsDue}
 
 abbrev pub IsSingle : {A E : Type 0} → (Result A E → Type 0) → Type 0
@@ -144,6 +148,25 @@ single_table_of schema sql words files =
     (λ catalog. single_then (Only (places_or (table_places catalog words))) (λ places. IsTableAt catalog words places sql files) (single_only (places_or (table_places catalog words)))
     (λ places. single_table_at catalog words places sql files))
 
+single_answer_at : (catalog : Catalog) (words : List TableWord) (places name : List ℕ) (files : List (List ℕ × List ℕ)) → IsSingle (IsAnswerAt catalog words places name files)
+single_answer_at catalog words places name files =
+    single_then (IsQueryAt catalog name files) (λ query. Then (Only (answer_at catalog query words places files)) (λ rows. Only (Ok (Outcome.Table (names query) rows)))) (single_query_at catalog name files)
+    (λ query. single_then (Only (answer_at catalog query words places files)) (λ rows. Only (Ok (Outcome.Table (names query) rows))) (single_only (answer_at catalog query words places files))
+    (λ rows. single_only (Ok (Outcome.Table (names query) rows))))
+
+single_answer_of : (schema name : List ℕ) (words : List TableWord) (files : List (List ℕ × List ℕ)) → IsSingle (IsAnswerOf schema name words files)
+single_answer_of schema name words files =
+    single_then (IsCatalogAt schema files) (λ catalog. Then (Only (places_or (table_places catalog words))) (λ places. IsAnswerAt catalog words places name files)) (single_catalog_at schema files)
+    (λ catalog. single_then (Only (places_or (table_places catalog words))) (λ places. IsAnswerAt catalog words places name files) (single_only (places_or (table_places catalog words)))
+    (λ places. single_answer_at catalog words places name files))
+
+single_sampled : (n : ℕ) → IsSingle (IsSampled n)
+single_sampled n =
+    single_then (Halted (IsQueryRead sample_catalog sample_query)) (λ query. Then (Only (halting (answer_due sample_catalog query (sample_rows n)))) (λ rows. Only (Ok (summary_of n rows))))
+    (single_halted (IsQueryRead sample_catalog sample_query) (single_query sample_catalog sample_query))
+    (λ query. single_then (Only (halting (answer_due sample_catalog query (sample_rows n)))) (λ rows. Only (Ok (summary_of n rows)))
+    (single_only (halting (answer_due sample_catalog query (sample_rows n)))) (λ rows. single_only (Ok (summary_of n rows))))
+
 -- the words are due one answer
 pub single_owes : (asked : Option Asked) (files : List (List ℕ × List ℕ)) (x y : Result Outcome Halt) → Owes asked files x → Owes asked files y → x ≡ y
 single_owes None files = λ x y p q. p ∙ sym q
@@ -153,6 +176,8 @@ single_owes (Some (Asked.OfCheck schema)) files =
 single_owes (Some (Asked.OfCheckQuery schema name)) files =
     single_then (IsCheckedAt schema name files) (λ checked. Only (Ok (Outcome.Weighed checked.weight))) (single_checked_at schema name files)
     (λ checked. single_only (Ok (Outcome.Weighed checked.weight)))
+single_owes (Some (Asked.OfRun schema name words)) files = single_answer_of schema name words files
+single_owes (Some (Asked.OfSample n)) files = single_sampled n
 single_owes (Some (Asked.OfEval schema sql words)) files = single_table_of schema sql words files
 
 -- ---- two texts

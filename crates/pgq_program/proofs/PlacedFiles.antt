@@ -12,12 +12,16 @@ use Rattle.pgq_program.specs.Commands.{Asked}
 use Rattle.pgq_program.specs.Places.{NamesPart, IsLineDue, of_role, text_for}
 use Rattle.pgq_program.specs.Runs.{IsDue, status_of, err_text}
 use Rattle.pgq_program.specs.Halts.{halting}
-use Rattle.pgq_program.specs.Steps.{Owes, IsTableOf, IsTranslationOf, IsCatalogAt, IsCheckedAt, held_text}
+use Rattle.pgq_program.specs.Steps.{Owes, IsTableOf, IsTranslationOf, IsAnswerOf, IsSampled, IsCatalogAt, IsCheckedAt, held_text, text_at}
 use Rattle.pgq_program.specs.Texts.{sized}
 use Rattle.pgq_program.proofs.Placed.{IsPlaced, read}
 use Rattle.pgq_program.proofs.PlacedQueries.{query_read}
 use Rattle.pgq_program.proofs.PlacedSqls.{sql_read, too_many_lies}
-use Rattle.pgq_program.proofs.PlacedTables.{IsTablePlaced, table_part, rows_placed, places_not_refused}
+use Rattle.pgq_program.proofs.PlacedTables.{IsTablePlaced, table_part, many_refused, rows_placed, places_not_refused}
+use Rattle.pgq_program.specs.Running.{answer_of}
+use Rattle.sample_run.specs.SampleCatalog.{sample_catalog}
+use Rattle.sample_run.specs.SampleRun.{sample_query, sample_rows}
+use Rattle.sql_algebra.specs.Meaning.{bag}
 use Rattle.pgq_program.specs.Rows.{too_many}
 use Rattle.table_words.specs.declared.word.TableWord.{TableWord}
 use Rattle.table_files.specs.TablePlaces.{table_places}
@@ -73,10 +77,10 @@ by_translate schema query files r (inl fault) = by_check schema query files r (i
 by_translate schema query files r (inr (catalog, e, inl fault)) = by_check schema query files r (inr (catalog, e, fault))
 by_translate schema query files r (inr (catalog, e, inr (checked, k, other))) = absurd cc
 
-by_rows : (schema sql text : List ℕ) (files : List (List ℕ × List ℕ)) (r : Refusal) → content_of sql files ≡ Some text → (too_many Sql ≡ r) ⊎ IsTablePlaced r
+by_eval_rows : (schema sql text : List ℕ) (files : List (List ℕ × List ℕ)) (r : Refusal) → content_of sql files ≡ Some text → (too_many Sql ≡ r) ⊎ IsTablePlaced r
     → NamesPart (of_role (content_of schema files) None (content_of sql files)) r
-by_rows schema sql text files r held (inl same) = in_sql (content_of schema files) None (content_of sql files) r (text, held, too_many_lies (length text) r same)
-by_rows schema sql text files r held (inr placed) = table_part (content_of schema files) None (content_of sql files) r placed
+by_eval_rows schema sql text files r held (inl same) = in_sql (content_of schema files) None (content_of sql files) r (text, held, too_many_lies Sql (length text) r same)
+by_eval_rows schema sql text files r held (inr placed) = table_part (content_of schema files) None (content_of sql files) r placed
 
 by_eval : (schema sql : List ℕ) (words : List TableWord) (files : List (List ℕ × List ℕ)) (r : Refusal) → IsTableOf schema sql words files (Err (h.Refused r)) → NamesPart (of_role (content_of schema files) None (content_of sql files)) r
 by_eval schema sql words files r (inl fault) = in_schema (content_of schema files) None (content_of sql files) r (refused_catalog files schema r fault)
@@ -85,8 +89,31 @@ by_eval schema sql words files r (inr (catalog, e, inr (places, is, inl (inl fau
 by_eval schema sql words files r (inr (catalog, e, inr (places, is, inl (inr (text, held, fault))))) =
     in_sql (content_of schema files) None (content_of sql files) r (text, read_text Sql text (content_of sql files) held, sql_read catalog text r fault)
 by_eval schema sql words files r (inr (catalog, e, inr (places, is, inr (query, (text, held, read), inl fault)))) =
-    by_rows schema sql text files r (read_text Sql text (content_of sql files) held) (rows_placed catalog query words places files r fault)
+    by_eval_rows schema sql text files r (read_text Sql text (content_of sql files) held) (rows_placed Sql (bag catalog query) catalog words places files r fault)
 by_eval schema sql words files r (inr (catalog, e, inr (places, is, inr (query, at, inr (rows, k, other))))) = absurd cc
+
+by_run_rows : (schema query text : List ℕ) (files : List (List ℕ × List ℕ)) (r : Refusal) → content_of query files ≡ Some text → (too_many Query ≡ r) ⊎ IsTablePlaced r
+    → NamesPart (of_role (content_of schema files) (content_of query files) None) r
+by_run_rows schema query text files r held (inl same) = in_query (content_of schema files) (content_of query files) None r (text, held, too_many_lies Query (length text) r same)
+by_run_rows schema query text files r held (inr placed) = table_part (content_of schema files) (content_of query files) None r placed
+
+by_run : (schema query : List ℕ) (words : List TableWord) (files : List (List ℕ × List ℕ)) (r : Refusal) → IsAnswerOf schema query words files (Err (h.Refused r))
+    → NamesPart (of_role (content_of schema files) (content_of query files) None) r
+by_run schema query words files r (inl fault) = in_schema (content_of schema files) (content_of query files) None r (refused_catalog files schema r fault)
+by_run schema query words files r (inr (catalog, e, inl fault)) = absurd (places_not_refused (table_places catalog words) r fault)
+by_run schema query words files r (inr (catalog, e, inr (places, is, inl (inl fault)))) =
+    in_query (content_of schema files) (content_of query files) None r (refused_text Query r (content_of query files) fault)
+by_run schema query words files r (inr (catalog, e, inr (places, is, inl (inr (text, held, fault))))) =
+    in_query (content_of schema files) (content_of query files) None r (text, read_text Query text (content_of query files) held, query_read catalog text r fault)
+by_run schema query words files r (inr (catalog, e, inr (places, is, inr (checked, (text, held, read), inl fault)))) =
+    by_run_rows schema query text files r (read_text Query text (content_of query files) held) (rows_placed Query (answer_of catalog checked) catalog words places files r fault)
+by_run schema query words files r (inr (catalog, e, inr (places, is, inr (checked, at, inr (rows, k, other))))) = absurd cc
+
+by_sample : (n : ℕ) (r : Refusal) → IsSampled n (Err (h.Refused r)) → NamesPart (of_role None (Some sample_query) None) r
+by_sample n r (inl fault) = query_part None None sample_query r (query_read sample_catalog sample_query r fault)
+by_sample n r (inr (checked, read, inl fault)) =
+    query_part None None sample_query r (too_many_lies Query (length sample_query) r (many_refused Query (answer_of sample_catalog checked (sample_rows n)) r fault))
+by_sample n r (inr (checked, read, inr (rows, k, other))) = absurd cc
 
 placed : (asked : Option Asked) (files : List (List ℕ × List ℕ)) (r : Refusal) → Owes asked files (Err (h.Refused r)) → NamesPart (text_for asked files) r
 placed None files r e = absurd cc
@@ -95,6 +122,8 @@ placed (Some (Asked.OfCheck schema)) files r (inl fault) = in_schema (content_of
 placed (Some (Asked.OfCheck schema)) files r (inr (catalog, e, other)) = absurd cc
 placed (Some (Asked.OfCheckQuery schema query)) files r (inl fault) = by_check schema query files r fault
 placed (Some (Asked.OfCheckQuery schema query)) files r (inr (checked, e, other)) = absurd cc
+placed (Some (Asked.OfRun schema query words)) files r fault = by_run schema query words files r fault
+placed (Some (Asked.OfSample n)) files r fault = by_sample n r fault
 placed (Some (Asked.OfEval schema sql words)) files r fault = by_eval schema sql words files r fault
 
 -- ---- what there is to say

@@ -1,6 +1,7 @@
 -- A refusal of an SQL text names a part of the text.
 use Rattle.std.proofs.Common.{◌≡◌, refl, sym, subst, ℕ, List, length, inl, inr, Option, None, Some, IfErr, Result, Ok, Err, arith}
 use Rattle.pgq_base.specs.declared.refusal.Refusal.{Refusal}
+use Rattle.pgq_base.specs.declared.refusal.Role.{Role}
 use Rattle.pgq_base.specs.declared.refusal.Role.TheVariants.{Sql}
 use Rattle.pgq_base.specs.declared.refusal.Stop.{Stop}
 use Rattle.pgq_base.specs.declared.refusal.Stop.TheVariants as s
@@ -24,8 +25,8 @@ use Rattle.pgq_program.specs.Texts.{GivesDue}
 use Rattle.pgq_program.proofs.Placed.{IsPlaced, lexed}
 
 -- a query with too many rows is refused at 0-0
-pub too_many_lies : (n : ℕ) (r : Refusal) → too_many Sql ≡ r → IsPlaced Sql n r
-too_many_lies n r same = subst (IsPlaced Sql n) same (refl, (omega arith, omega arith))
+pub too_many_lies : (role : Role) (n : ℕ) (r : Refusal) → too_many role ≡ r → IsPlaced role n r
+too_many_lies role n r same = subst (IsPlaced role n) same (refl, (omega arith, omega arith))
 
 ruled_by : (n : ℕ) (o : Option Fault) (query : SqlQuery) (r : Refusal) → ((f : Fault) → o ≡ Some f → LiesIn n f.span) → query_unless query o ≡ Err r → IsPlaced Sql n r
 ruled_by n None query r lies e = absurd cc

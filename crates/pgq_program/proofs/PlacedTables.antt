@@ -5,12 +5,10 @@ use Rattle.pgq_base.specs.Instances.{TableRows, InstanceRows}
 use Rattle.pgq_base.specs.declared.code.Code.TheVariants.{DataTooLarge}
 use Rattle.pgq_base.specs.declared.refusal.Refusal.{Refusal}
 use Rattle.pgq_base.specs.declared.refusal.Role.{Role}
-use Rattle.pgq_base.specs.declared.refusal.Role.TheVariants.{Sql, Table as OfTable}
+use Rattle.pgq_base.specs.declared.refusal.Role.TheVariants.{Table as OfTable}
 use Rattle.graph_ast.specs.declared.catalog.Catalog.{Catalog}
 use Rattle.graph_ast.specs.declared.catalog.Table.{Table}
 use Rattle.graph_ast.specs.Lookups.{table_at}
-use Rattle.sql_algebra.specs.declared.tree.SqlQuery.{SqlQuery}
-use Rattle.sql_algebra.specs.Meaning.{bag}
 use Rattle.csv_tables.specs.declared.faults.TableFault.{TableFault}
 use Rattle.csv_tables.specs.Constraints.{table_or, tables_refusal, instance_refusal}
 use Rattle.csv_tables.specs.Outcomes.{refusal_of, refused_as}
@@ -24,8 +22,8 @@ use Rattle.pgq_program.specs.declared.halt.Halt.{Halt}
 use Rattle.pgq_program.specs.declared.halt.Halt.TheVariants as h
 use Rattle.pgq_program.specs.Halts.{halting, halt_by, tables_halting, places_or}
 use Rattle.pgq_program.specs.Places.{IsPart, NamesPart, of_role}
-use Rattle.pgq_program.specs.Rows.{too_many, rows_due}
-use Rattle.pgq_program.specs.Steps.{rows_at}
+use Rattle.pgq_program.specs.Rows.{too_many, few_rows}
+use Rattle.pgq_program.specs.Texts.{next}
 use Rattle.pgq_program.proofs.PlacedTexts.{refused_next}
 
 -- the refusal of a table: its span is 0-0
@@ -124,20 +122,24 @@ halted : {A : Type 0} (due : Result A Refusal) (r : Refusal) → halting due ≡
 halted (Ok x) r e = absurd cc
 halted (Err refusal) r e = cc
 
-too_many_is : (rows : TableRows) (r : Refusal) (b : Bool) → cond b (let x : Result TableRows Refusal = Ok rows in x) (Err (too_many Sql)) ≡ Err r → too_many Sql ≡ r
-too_many_is rows r true e = absurd cc
-too_many_is rows r false e = cc
+too_many_is : (role : Role) (rows : TableRows) (r : Refusal) (b : Bool) → cond b (let x : Result TableRows Refusal = Ok rows in x) (Err (too_many role)) ≡ Err r → too_many role ≡ r
+too_many_is role rows r true e = absurd cc
+too_many_is role rows r false e = cc
 
-pub rows_placed : (catalog : Catalog) (query : SqlQuery) (words : List TableWord) (places : List ℕ) (files : List (List ℕ × List ℕ)) (r : Refusal)
-    → rows_at catalog query words places files ≡ Err (h.Refused r) → (too_many Sql ≡ r) ⊎ IsTablePlaced r
-rows_placed catalog query words places files r e = by (refused_next (tables_halting (instance_at catalog files words places)) _ (h.Refused r) e)
+-- rows are refused where there are too many
+pub many_refused : (role : Role) (rows : TableRows) (r : Refusal) → halting (few_rows role rows) ≡ Err (h.Refused r) → too_many role ≡ r
+many_refused role rows r e = too_many_is role rows r (nat_le (length rows) 1000000) (halted (few_rows role rows) r e)
+
+-- rows over the instance of some files
+pub rows_placed : (role : Role) (rows : InstanceRows → TableRows) (catalog : Catalog) (words : List TableWord) (places : List ℕ) (files : List (List ℕ × List ℕ)) (r : Refusal)
+    → next (tables_halting (instance_at catalog files words places)) (λ instance. halting (few_rows role (rows instance))) ≡ Err (h.Refused r) → (too_many role ≡ r) ⊎ IsTablePlaced r
+rows_placed role rows catalog words places files r e = by (refused_next (tables_halting (instance_at catalog files words places)) _ (h.Refused r) e)
   where
     by : ((tables_halting (instance_at catalog files words places) ≡ Err (h.Refused r))
-        ⊎ ((instance : InstanceRows) × (tables_halting (instance_at catalog files words places) ≡ Ok instance) × (halting (rows_due Sql catalog query instance) ≡ Err (h.Refused r))))
-        → (too_many Sql ≡ r) ⊎ IsTablePlaced r
+        ⊎ ((instance : InstanceRows) × (tables_halting (instance_at catalog files words places) ≡ Ok instance) × (halting (few_rows role (rows instance)) ≡ Err (h.Refused r))))
+        → (too_many role ≡ r) ⊎ IsTablePlaced r
     by (inl e) = inr (of_instance catalog files words places r (halted_by (instance_at catalog files words places) r e))
-    by (inr (instance, is, e)) =
-        inl (too_many_is (bag catalog query instance) r (nat_le (length (bag catalog query instance)) 1000000) (halted (rows_due Sql catalog query instance) r e))
+    by (inr (instance, is, e)) = inl (many_refused role (rows instance) r e)
 
 -- the places of tables are Usage or there
 pub places_not_refused : (places : Option (List ℕ)) (r : Refusal) → places_or places ≡ Err (h.Refused r) → ⊥

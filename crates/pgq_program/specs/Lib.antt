@@ -7,6 +7,7 @@ pub mod Outcomes
 pub mod Places
 pub mod Queries
 pub mod Rows
+pub mod Running
 pub mod Runs
 pub mod Schemas
 pub mod Steps

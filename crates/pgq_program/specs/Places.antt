@@ -8,6 +8,7 @@ use Rattle.pgq_base.specs.declared.refusal.Refusal.{Refusal}
 use Rattle.pgq_base.specs.declared.refusal.Stop.{Stop}
 use Rattle.pgq_base.specs.declared.refusal.Stop.TheVariants as s
 use Rattle.sql_lexer.specs.Spans.{LiesIn}
+use Rattle.sample_run.specs.SampleRun.{sample_query}
 use Rattle.pgq_program.specs.declared.halt.Halt.TheVariants as h
 use Rattle.pgq_program.specs.Commands.{Asked}
 use Rattle.pgq_program.specs.Lines.{refusal_line}
@@ -20,12 +21,14 @@ of_role schema query sql Query = query
 of_role schema query sql Sql = sql
 of_role schema query sql Table = None
 
--- the text of each role that the words ask for
+-- the text of each role that the words ask for; the generated run has its own query text
 abbrev pub text_for : Option Asked → List (List ℕ × List ℕ) → Role → Option (List ℕ)
 text_for None files = of_role None None None
 text_for (Some (Asked.OfTranslate schema query)) files = of_role (content_of schema files) (content_of query files) None
 text_for (Some (Asked.OfCheck schema)) files = of_role (content_of schema files) None None
 text_for (Some (Asked.OfCheckQuery schema query)) files = of_role (content_of schema files) (content_of query files) None
+text_for (Some (Asked.OfRun schema query tables)) files = of_role (content_of schema files) (content_of query files) None
+text_for (Some (Asked.OfSample count)) files = of_role None (Some sample_query) None
 text_for (Some (Asked.OfEval schema sql tables)) files = of_role (content_of schema files) None (content_of sql files)
 
 -- the span lies in the text; where there is none it is 0-0

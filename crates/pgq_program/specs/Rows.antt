@@ -25,9 +25,12 @@ IsSqlRead catalog text answer = Then (IsLexed Sql text) (λ tokens. Then (IsOutc
 abbrev pub too_many : Role → Refusal
 too_many role = refusal role TooManyRows (record { from = 0; to = 0 })
 
+abbrev pub few_rows : Role → TableRows → Result TableRows Refusal
+few_rows role rows = cond (nat_le (length rows) 1000000) (Ok rows) (Err (too_many role))
+
 -- the rows of the query over the instance
 abbrev pub rows_due : Role → Catalog → SqlQuery → InstanceRows → Result TableRows Refusal
-rows_due role catalog query instance = cond (nat_le (length (bag catalog query instance)) 1000000) (Ok (bag catalog query instance)) (Err (too_many role))
+rows_due role catalog query instance = few_rows role (bag catalog query instance)
 
 -- the text is that of the rows that are due under the names, or this refusal is due, or it is want of memory or a fault
 abbrev pub WritesTable : List (List ℕ) → Result TableRows Halt → Result (List ℕ) Halt → Type 0

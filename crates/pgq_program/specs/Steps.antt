@@ -15,6 +15,9 @@ use Rattle.sql_algebra.specs.Meaning.{names_of}
 use Rattle.table_words.specs.declared.word.TableWord.{TableWord}
 use Rattle.table_files.specs.TablePlaces.{table_places}
 use Rattle.table_loads.specs.Loads.{instance_at}
+use Rattle.graph_meaning.specs.Answers.{names}
+use Rattle.sample_run.specs.SampleCatalog.{sample_catalog}
+use Rattle.sample_run.specs.SampleRun.{sample_query, sample_rows}
 use Rattle.pgq_program.specs.declared.halt.Halt.{Halt}
 use Rattle.pgq_program.specs.declared.halt.Halt.TheVariants as h
 use Rattle.pgq_program.specs.Commands.{Asked}
@@ -23,6 +26,7 @@ use Rattle.pgq_program.specs.Halts.{halting, tables_halting, places_or}
 use Rattle.pgq_program.specs.Outcomes.{Outcome, IsTextOf}
 use Rattle.pgq_program.specs.Queries.{IsQueryRead}
 use Rattle.pgq_program.specs.Rows.{IsSqlRead, rows_due}
+use Rattle.pgq_program.specs.Running.{answer_due, summary_of}
 use Rattle.pgq_program.specs.Schemas.{IsRead}
 use Rattle.pgq_program.specs.Texts.{next, sized}
 
@@ -86,12 +90,33 @@ abbrev pub IsTableOf : List ℕ → List ℕ → List TableWord → List (List �
 IsTableOf schema sql words files answer =
     Then (IsCatalogAt schema files) (λ catalog. Then (Only (places_or (table_places catalog words))) (λ places. IsTableAt catalog words places sql files)) answer
 
+-- the answer of a query over the view of the tables of some files
+abbrev pub answer_at : Catalog → CheckedQuery → List TableWord → List ℕ → List (List ℕ × List ℕ) → Result TableRows Halt
+answer_at catalog query words places files = next (tables_halting (instance_at catalog files words places)) (λ instance. halting (answer_due catalog query instance))
+
+-- the query file, and then the tables' files
+abbrev pub IsAnswerAt : Catalog → List TableWord → List ℕ → List ℕ → List (List ℕ × List ℕ) → Result Outcome Halt → Type 0
+IsAnswerAt catalog words places name files answer =
+    Then (IsQueryAt catalog name files) (λ query. Then (Only (answer_at catalog query words places files)) (λ rows. Only (Ok (Outcome.Table (names query) rows)))) answer
+
+-- the schema file, the names of the tables, the query file, and the tables' files
+abbrev pub IsAnswerOf : List ℕ → List ℕ → List TableWord → List (List ℕ × List ℕ) → Result Outcome Halt → Type 0
+IsAnswerOf schema query words files answer =
+    Then (IsCatalogAt schema files) (λ catalog. Then (Only (places_or (table_places catalog words))) (λ places. IsAnswerAt catalog words places query files)) answer
+
+-- the query of the generated run, and then its answer over the tables with n persons; no file is read
+abbrev pub IsSampled : ℕ → Result Outcome Halt → Type 0
+IsSampled n answer =
+    Then (Halted (IsQueryRead sample_catalog sample_query)) (λ query. Then (Only (halting (answer_due sample_catalog query (sample_rows n)))) (λ rows. Only (Ok (summary_of n rows)))) answer
+
 -- what the words are due
 abbrev pub Owes : Option Asked → List (List ℕ × List ℕ) → Result Outcome Halt → Type 0
 Owes None files answer = answer ≡ Err h.Usage
 Owes (Some (Asked.OfTranslate schema query)) files answer = IsTranslationOf schema query files answer
 Owes (Some (Asked.OfCheck schema)) files answer = Then (IsCatalogAt schema files) (λ catalog. Only (Ok Outcome.Sound)) answer
 Owes (Some (Asked.OfCheckQuery schema query)) files answer = Then (IsCheckedAt schema query files) (λ checked. Only (Ok (Outcome.Weighed checked.weight))) answer
+Owes (Some (Asked.OfRun schema query tables)) files answer = IsAnswerOf schema query tables files answer
+Owes (Some (Asked.OfSample count)) files answer = IsSampled count answer
 Owes (Some (Asked.OfEval schema sql tables)) files answer = IsTableOf schema sql tables files answer
 
 -- this answer is due, or it is want of memory or a fault, which have their own clauses

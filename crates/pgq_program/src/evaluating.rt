@@ -60,8 +60,8 @@ fn query_at<F: Shelf>(
     query_in(alloc, catalog, text.as_slice())
 }
 
-// The instance of the tables that the words name.
-fn instance_at<F: Shelf>(
+/// The instance of the tables that the words name.
+pub(crate) fn instance_at<F: Shelf>(
     alloc: Global,
     files: &mut F,
     catalog: &Catalog,
@@ -109,7 +109,7 @@ fn table_at<F: Shelf>(
     ensures never { IsErrOf result Halt.Usage → ⊥ }
 {
     let instance = instance_at(alloc, files, catalog, words, places)?;
-    table_of(alloc, catalog, query, &instance)
+    table_of(alloc, Role::Sql, catalog, query, &instance)
 }
 
 // The SQL file, and then the tables' files.
@@ -136,7 +136,8 @@ fn table_by<F: Shelf>(
     table_at(alloc, files, catalog, &query, words, places)
 }
 
-fn places_of(alloc: Global, catalog: &Catalog, words: &[TableWord]) -> Result<List<u32>, Halt>
+/// The places of the tables that the words name; Usage where one is unknown or stands twice.
+pub(crate) fn places_of(alloc: Global, catalog: &Catalog, words: &[TableWord]) -> Result<List<u32>, Halt>
     requires { IsValidCatalog catalog.now }
     ensures told { StepGives (Only (places_or (table_places catalog.now words.now))) result }
     ensures each { IfOk result (λ places. length places ≡ length words.now) }

@@ -6,7 +6,6 @@ ghost use Rattle.graph_ast.specs.Fits.{Fits};
 ghost use Rattle.sql_algebra.specs.Meaning.{names_of, bag};
 ghost use Rattle.sql_algebra.specs.Soundness.{IsSound};
 ghost use Rattle.sql_lexer.specs.Spans.{RefusalLiesIn};
-ghost use Rattle.pgq_base.specs.declared.refusal.Role.TheVariants.{Sql as OfSql};
 ghost use Rattle.row_eval.specs.declared.evaluator.EvalStop.TheVariants.{TooManyRows as IsTooMany};
 ghost use Rattle.row_eval.specs.Stored.{row_values, stored};
 ghost use Rattle.row_eval.specs.Typed.{MeetsTypes};
@@ -88,20 +87,21 @@ fn counted<L: Ledger>(
     evaluate(alloc, query, catalog, instance, &mut steps)
 }
 
-fn too_many() -> Refusal
-    ensures { result ≡ too_many OfSql }
+fn too_many(role: Role) -> Refusal
+    ensures { result ≡ too_many role }
 {
     Refusal {
-        role: Role::Sql,
+        role,
         span: Span { from: 0, to: 0 },
         code: Code::TooManyRows,
         detail: Detail::Nothing,
     }
 }
 
-// The rows of the query, which are no more than are written.
-fn rows_of(
+/// The rows of the query, which are no more than are written; a refusal has the role of the text that asks.
+pub(crate) fn rows_of(
     alloc: Global,
+    role: Role,
     catalog: &Catalog,
     query: &SqlQuery,
     instance: &Instance,
@@ -109,21 +109,22 @@ fn rows_of(
     requires sound { IsSound query.now catalog.now }
     requires valid { IsValidCatalog catalog.now }
     requires fits { Fits catalog.now (instance_rows instance.now) }
-    ensures told { StepGives (Only (halting (rows_due OfSql catalog.now query.now (instance_rows instance.now)))) (seen rows_of result) }
+    ensures told { StepGives (Only (halting (rows_due role catalog.now query.now (instance_rows instance.now)))) (seen rows_of result) }
     ensures fit { IfOk result (λ rows. All (λ row. length row.values ≡ length (names_of query.now)) rows.rows) }
     ensures never { IsErrOf result Halt.Usage → ⊥ }
     ensures calm { IsErrOf result Halt.ReadFault → ⊥ }
 {
     match counted::<Brand>(alloc, Blank::new(1), query, catalog, instance) {
         Ok(rows) => Ok(rows),
-        Err(EvalStop::TooManyRows) => Err(Halt::Refused(too_many())),
+        Err(EvalStop::TooManyRows) => Err(Halt::Refused(too_many(role))),
         Err(EvalStop::NoMemory) => Err(Halt::NoMemory),
     }
 }
 
-/// The table text of the query's rows over an instance.
+/// The table text of the query's rows over an instance; a refusal has the role of the text that asks.
 pub(crate) fn table_of(
     alloc: Global,
+    role: Role,
     catalog: &Catalog,
     query: &SqlQuery,
     instance: &Instance,
@@ -132,11 +133,11 @@ pub(crate) fn table_of(
     requires columns { 1 ≤ length (names_of query.now) }
     requires valid { IsValidCatalog catalog.now }
     requires fits { Fits catalog.now (instance_rows instance.now) }
-    ensures told { WritesTable (names_of query.now) (halting (rows_due OfSql catalog.now query.now (instance_rows instance.now))) result }
+    ensures told { WritesTable (names_of query.now) (halting (rows_due role catalog.now query.now (instance_rows instance.now))) result }
     ensures never { IsErrOf result Halt.Usage → ⊥ }
     ensures calm { IsErrOf result Halt.ReadFault → ⊥ }
 {
-    let rows = rows_of(alloc, catalog, query, instance)?;
+    let rows = rows_of(alloc, role, catalog, query, instance)?;
     let names = column_names(alloc, query)?;
     Ok(write_rows(alloc, names.as_slice(), rows.rows.as_slice())?)
 }

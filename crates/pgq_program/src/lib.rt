@@ -9,6 +9,8 @@ mod laws;
 mod lines;
 mod names;
 mod queries;
+mod running;
+mod sampling;
 mod schemas;
 mod status;
 mod steps;
@@ -26,5 +28,7 @@ pub use top::pgq;
 mod query_tests;
 #[cfg(test)]
 mod schema_tests;
+#[cfg(test)]
+mod table_tests;
 #[cfg(test)]
 mod tests;

@@ -50,7 +50,7 @@ pub(crate) fn read_checked(
     ensures translatable { IfOk result (λ query. IsTranslatable catalog.now query) }
     ensures in_text { IfErr result (RefusalLiesIn (length text.now)) }
 {
-    makes_translatable()?;
+    makes_translatable();
     let tokens = lex(alloc, text, Role::Query)?;
     let tree = parse_query(alloc, tokens.as_slice(), text.len() as u32)?;
     judge(alloc, catalog, &tree)

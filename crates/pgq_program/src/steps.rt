@@ -13,6 +13,8 @@ use crate::evaluating::eval;
 use crate::halt::Halt;
 use crate::lines::put_number;
 use crate::queries::read_checked;
+use crate::running::run;
+use crate::sampling::sample;
 use crate::schemas::read_catalog;
 use crate::texts::{TEXT_LIMIT, sql_text, too_large};
 use crate::words::{Command, read_words};
@@ -87,7 +89,12 @@ fn check<F: Shelf>(alloc: Global, files: &mut F, schema: &str) -> Result<List<u8
     Ok(text)
 }
 
-fn query_in(alloc: Global, catalog: &Catalog, text: &[u8]) -> Result<CheckedQuery, Halt>
+/// The query that a query text that is not too large stands for in a catalog.
+pub(crate) fn query_in(
+    alloc: Global,
+    catalog: &Catalog,
+    text: &[u8],
+) -> Result<CheckedQuery, Halt>
     requires small { length text.now ≤ 1048576 }
     requires valid { IsValidCatalog catalog.now }
     ensures due { StepGives (Halted (IsQueryRead catalog.now text.now)) result }
@@ -102,7 +109,8 @@ fn query_in(alloc: Global, catalog: &Catalog, text: &[u8]) -> Result<CheckedQuer
     }
 }
 
-fn query_at<F: Shelf>(
+/// The query of the query file in a catalog.
+pub(crate) fn query_at<F: Shelf>(
     alloc: Global,
     files: &mut F,
     catalog: &Catalog,
@@ -224,8 +232,12 @@ pub(crate) fn answer<F: Shelf>(
         Some(Command::Translate(schema, query)) => translate(alloc, files, schema, query),
         Some(Command::Check(schema)) => check(alloc, files, schema),
         Some(Command::CheckQuery(schema, query)) => check_with_query(alloc, files, schema, query),
+        Some(Command::Run(schema, query, tables)) => {
+            run(alloc, files, schema, query, tables.as_slice())
+        }
         Some(Command::Eval(schema, sql, tables)) => {
             eval(alloc, files, schema, sql, tables.as_slice())
         }
+        Some(Command::Sample(count)) => sample(alloc, count),
     }
 }

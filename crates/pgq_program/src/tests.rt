@@ -25,7 +25,7 @@ const QUERY: &str =
 const SQL: &str =
     "SELECT A0.NAME AS X, A2.NAME AS Y FROM PERSON AS A0 JOIN KNOWS AS A1 ON A1.A = A0.ID JOIN PERSON AS A2 ON A1.B = A2.ID\n";
 
-const USAGE: &str =
+pub(crate) const USAGE: &str =
     "usage: pgq translate SCHEMA QUERY, check SCHEMA [QUERY], run SCHEMA QUERY TABLE=FILE ..., eval SCHEMA SQL TABLE=FILE ..., sample N\n";
 
 // No call of a device has this number.
@@ -87,7 +87,7 @@ pub(crate) fn refused(line: &str) -> Wanted<'_> {
     }
 }
 
-fn words_of(alloc: Global, words: &[&str]) -> Result<List<Text>, NoMemory> {
+pub(crate) fn words_of(alloc: Global, words: &[&str]) -> Result<List<Text>, NoMemory> {
     let mut list = List::new(alloc);
     for word in words {
         list.push(Text::from_text(alloc, word)?)?;
@@ -586,7 +586,7 @@ fn asks_for_its_words(rt: HostRuntime) -> Result<(), Fail> {
         out: b"",
         err: USAGE.as_bytes(),
     };
-    let forms: [&[&str]; 8] = [
+    let forms: [&[&str]; 16] = [
         &[],
         &["translate"],
         &["translate", "schema"],
@@ -594,7 +594,15 @@ fn asks_for_its_words(rt: HostRuntime) -> Result<(), Fail> {
         &["TRANSLATE", "schema", "query"],
         &["check"],
         &["check", "schema", "query", "query"],
-        &["sample", "5"],
+        &["run", "schema"],
+        &["run", "schema", "query", "person"],
+        &["eval", "schema", "query", "person="],
+        &["sample"],
+        &["sample", "0"],
+        &["sample", "05"],
+        &["sample", "+5"],
+        &["sample", "2001"],
+        &["sample", "5", "5"],
     ];
     for words in forms {
         expect(

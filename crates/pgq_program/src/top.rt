@@ -21,14 +21,16 @@ use std::alloc::Global;
 /// Does what the words ask for, with the files of the shelf, and puts the outcome on the two sinks.
 ///
 /// `translate SCHEMA QUERY` writes the SQL text that means the query over the tables of the schema,
-/// `check SCHEMA` writes `ok`, `check SCHEMA QUERY` writes `ok, weight W`, W the query's weight in decimal, and
-/// `eval SCHEMA SQL TABLE=FILE ..` the table text of the SQL text over the tables of the files. Words of
+/// `check SCHEMA` writes `ok`, `check SCHEMA QUERY` writes `ok, weight W`, W the query's weight in decimal,
+/// `run SCHEMA QUERY TABLE=FILE ..` the table text of the query's answer over the view of the tables of the files,
+/// `eval SCHEMA SQL TABLE=FILE ..` the table text of the SQL text over the tables of the files, and `sample N`, with N
+/// from 1 to 2000, the summary of the generated run with N persons, for which no file is read. Words of
 /// another form are `Usage`. Things are looked at in this order: the words; the schema file, by its size, its tokens, its
-/// grammar and its rules; under `translate` and `check` the query file, by its size, its tokens, its grammar, whether it has a
-/// form that is not served yet, and its rules. Under `eval` the names of the tables come behind the schema file: one that is
-/// unknown or stands twice is `Usage`; then the SQL file, by its size, its tokens, its grammar and its rules; the tables' files
-/// in the order of the words, each by its size and its content; their keys and references; and the number of rows, of which
-/// more than 1,000,000 are refused by `TooManyRows`. The first of them that is at fault gives the answer.
+/// grammar and its rules; under `run` and `eval` the names of the tables, where an unknown one and one that stands twice are
+/// `Usage`; the query file, by its size, its tokens, its grammar, whether it has a form that is not served yet, and its rules,
+/// or the SQL file, by its size, its tokens, its grammar and its rules; the tables' files in the order of the words, each by its
+/// size and its content; their keys and references; and the number of rows, of which more than 1,000,000 are refused by
+/// `TooManyRows`. The first of them that is at fault gives the answer.
 ///
 /// The whole text is made before its first byte is put on `out`. Under `Done` `out` receives the text and `err`
 /// nothing; under another status `out` receives nothing and `err` one line, unless a sink fails, which is
@@ -47,7 +49,8 @@ pub fn pgq<F: Shelf, S: Sink, E: Sink>(
         (E.received err.old) (E.received err.new) (E.faults err.old) (E.faults err.new) }
 
     // What is written is a text of what is due: of `translate` one that means the query, over every instance that fits; of `check` the
-    // line `ok`, and then the schema text is without faults; with a query the line with its weight, and then the query text is, too.
+    // line `ok`, and then the schema text is without faults; with a query the line with its weight, and then the query text is, too; of
+    // `run` the table text of the answer over the view of the tables, of `eval` that of the SQL text's rows, of `sample` its counts.
     ensures done { result ≡ Status.Done → IfSome (F.files files.old) (λ told. (outcome : Outcome) × Owes (command_of words.now) told (Ok outcome)
         × Writes outcome (S.received out.old) (S.received out.new)) }
 

@@ -9,7 +9,7 @@ returns-clause-due c =
 
 pub returns-clause-translatable : goal.returns-clause-translatable
 returns-clause-translatable c =
-    translatable c.in_ok-makes_translatable.ensures c.args.catalog.now c.args.text.now c.in_ok-tokens.tokens c.in_ok-tree.tree c.judge.result c.requires.valid
+    translatable c.makes_translatable.ensures c.args.catalog.now c.args.text.now c.in_ok-tokens.tokens c.in_ok-tree.tree c.judge.result c.requires.valid
     c.in_ok-tokens.ensures.tokens c.as_slice.result.now c.as_slice.ensures c.in_ok-tree.ensures.ok c.judge.ensures
 
 pub returns-clause-in_text : goal.returns-clause-in_text
