@@ -2,7 +2,6 @@
 use Rattle.std.proofs.Common.{refl, ℕ, Bool, true, false}
 use Rattle.pgq_base.specs.declared.refusal.Span.{Span}
 use Rattle.sql_lexer.specs.declared.token.Token.{Token}
-use Rattle.token_marks.specs.declared.mark.Mark.TheVariants as m
 use Rattle.expr_tree.specs.declared.tree.Test.TheVariants as test_is
 use Rattle.graph_ast.specs.declared.schema.Named.{Named}
 use Rattle.graph_ast.specs.declared.query.PropertyRef.{PropertyRef}

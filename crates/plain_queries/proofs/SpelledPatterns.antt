@@ -7,7 +7,6 @@ use Rattle.graph_ast.specs.declared.query.Joint.{Joint}
 use Rattle.graph_ast.specs.declared.query.PathTree.{PathTree}
 use Rattle.graph_ast.specs.declared.query.Quantifier.{Quantifier}
 use Rattle.graph_ast.specs.declared.query.Factor.{Factor}
-use Rattle.graph_ast.specs.declared.query.Factor.TheVariants as factor_is
 use Rattle.graph_ast.specs.declared.query.PartTree.{rolls-PartTree', fold-roll-PartTree}
 use Rattle.graph_ast.specs.declared.query.Sequence.{Sequence, fold-roll-Sequence}
 use Rattle.graph_ast.specs.declared.query.Union.{Union, roll-Union, fold-roll-Union}
@@ -15,16 +14,39 @@ use Rattle.graph_ast.specs.Patterns.{Body, Part, Giving, factor_step, part_step,
 use Rattle.condition_grammar.specs.Conditions.{Inside}
 use Rattle.pattern_check.specs.Scopes.{row_conditions, body_conditions, part_conditions, conditions, path_conditions}
 use Rattle.pattern_check.proofs.Factors.{together, given_vertex, given_edge, given_part}
-use Rattle.pattern_parser.specs.declared.pieces.Content.{Content}
-use Rattle.pattern_parser.specs.declared.pieces.EdgePattern.{EdgePattern}
-use Rattle.pattern_parser.specs.declared.pieces.EdgeEnd.{EdgeEnd}
-use Rattle.pattern_parser.specs.declared.pieces.PartContent.{PartContent}
-use Rattle.pattern_parser.specs.declared.pieces.Placed.{Placed}
-use Rattle.pattern_parser.specs.Insides.{Own}
+use Rattle.pattern_parser.specs.Insides.{Own, HeldOwn, Production}
 use Rattle.pattern_parser.specs.Patterns.{in_square, pointed, edge_end, wave_end, dashed, waved, left_edge, edge, node_of, placed, reach_over, part_of, part_at, vertex_at, edge_at, part_or_vertex, factor, sequence_of, sequence, Joined, joint_in, operand_in, sequence_in, union_of, union, path}
 use Rattle.token_marks.specs.declared.mark.Mark.{Mark}
 use Rattle.plain_queries.proofs.SpelledTrees.{is_spelled}
 use Rattle.plain_queries.proofs.RuleValues.{Parts, Of, Given, Gives, Any, Pair, IfGiven, Each, any_gives, mapped_gives, seq_gives, either_gives, opt_gives, many_gives, nest_gives, fork_gives}
+
+-- ---- what the parser has in its hands, which other crates name by the rules that give it
+
+abbrev ValueOf : {V : Type 0} → Production V → Type 0
+ValueOf {V} rule = V
+
+abbrev pub Content : Type 0
+Content = HeldOwn Own.filler
+
+abbrev pub PartContent : Type 0
+PartContent = HeldOwn Own.part
+
+abbrev EdgeEnd : Type 0
+EdgeEnd = ValueOf wave_end
+
+abbrev EdgePattern : Type 0
+EdgePattern = ValueOf edge
+
+abbrev PlacedFactor : Type 0
+PlacedFactor = ValueOf factor
+
+abbrev PlacedSequence : Type 0
+PlacedSequence = ValueOf sequence
+
+abbrev pub PlacedUnion : Type 0
+PlacedUnion = ValueOf union
+
+-- ---- conditions
 
 abbrev pub IsSpelled : Of Condition
 IsSpelled condition = is_spelled condition.tree ≡ true
@@ -76,13 +98,13 @@ EdgeSpelled e = IfGiven IsSpelled e.filler.condition
 abbrev pub PartSpelled : Of PartContent
 PartSpelled c = AreSpelled (in_union c.body) × IfGiven IsSpelled c.condition
 
-abbrev FactorSpelled : Of (Placed Factor)
+abbrev FactorSpelled : Of PlacedFactor
 FactorSpelled x = AreSpelled (in_factor x.node)
 
-abbrev SequenceSpelled : Of (Placed Sequence)
+abbrev SequenceSpelled : Of PlacedSequence
 SequenceSpelled x = AreSpelled (in_sequence x.node)
 
-abbrev pub UnionSpelled : Of (Placed Union)
+abbrev pub UnionSpelled : Of PlacedUnion
 UnionSpelled x = AreSpelled (in_union x.node)
 
 abbrev pub PathSpelled : Of PathTree
@@ -99,11 +121,11 @@ part_spelled first last c q h =
     subst AreSpelled (sym (given_part conditions (part_of c _) q ∙ ap part_conditions (part_is conditions c _)))
     (together IsSpelled (in_union c.body) (option_to_list c.condition) h.0 (option_spelled c.condition h.1))
 
-factors_spelled : (xs : List (Placed Factor)) → Each FactorSpelled xs → AreSpelled (row_conditions (map in_factor (map node_of xs)))
+factors_spelled : (xs : List PlacedFactor) → Each FactorSpelled xs → AreSpelled (row_conditions (map in_factor (map node_of xs)))
 factors_spelled [] h = tt
 factors_spelled (x ∷ xs) h = together IsSpelled (in_factor x.node) (row_conditions (map in_factor (map node_of xs))) h.0 (factors_spelled xs h.1)
 
-sequence_spelled : (d : Placed Factor × List (Placed Factor)) (span : Span) → FactorSpelled d.0 → Each FactorSpelled d.1
+sequence_spelled : (d : PlacedFactor × List PlacedFactor) (span : Span) → FactorSpelled d.0 → Each FactorSpelled d.1
     → SequenceSpelled (placed (sequence_of (d.0.node ∷ map node_of d.1)) span)
 sequence_spelled d span first rest =
     subst (λ row. AreSpelled (row_conditions row)) (sym (sequence_is conditions (d.0.node ∷ map node_of d.1))) (factors_spelled (d.0 ∷ d.1) (first, rest))
@@ -116,7 +138,7 @@ operands_spelled [] h = tt
 operands_spelled (d ∷ more) h =
     together IsSpelled (in_sequence d.1.node) (flat_map row_conditions (map (sequence_given conditions) (map sequence_in more))) h.0.1 (operands_spelled more h.1)
 
-union_spelled : (d : Placed Sequence × List Joined) (span : Span) → SequenceSpelled d.0 → Each BehindJoint d.1 → UnionSpelled (placed (union_of d.0.node d.1) span)
+union_spelled : (d : PlacedSequence × List Joined) (span : Span) → SequenceSpelled d.0 → Each BehindJoint d.1 → UnionSpelled (placed (union_of d.0.node d.1) span)
 union_spelled d span first rest =
     subst (λ body. AreSpelled (body_conditions body)) (sym (union_is conditions (d.0.node ∷ map sequence_in d.1) (map joint_in d.1)))
     (together IsSpelled (in_sequence d.0.node) (flat_map row_conditions (map (sequence_given conditions) (map sequence_in d.1))) first (operands_spelled d.1 rest))
