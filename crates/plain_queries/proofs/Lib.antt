@@ -1,0 +1,13 @@
+pub mod Undoubled
+pub mod WrittenTokens
+pub mod SpelledLiterals
+pub mod RuleValues
+pub mod SpelledTrees
+pub mod SpelledNodes
+pub mod SpelledConditions
+pub mod SpelledPatterns
+pub mod SpelledQueries
+pub mod PlainUses
+pub mod PlainTrees
+pub mod NamesApart
+pub mod TranslatableQueries
