@@ -1,4 +1,4 @@
--- The SELECT of a candidate and that of a block from their parts, and the conjuncts of one candidate and of one path more.
+-- The SELECT of a candidate from its parts, and the conjunct of one candidate more.
 use Rattle.std.proofs.Common.{◌≡◌, ℕ, zero, suc, ◌-◌, ◌+◌, ◌≤◌, ◌<◌, add-one, Bool, true, false, cond, List, [], ◌∷◌, ◌++◌, map, filter, flat_map, length, get_or, take, drop, refl, sym, ap, ap₂, ◌∙◌, arith, append_assoc, Option, None}
 use Rattle.graph_ast.specs.declared.catalog.Catalog.{Catalog}
 use Rattle.graph_ast.specs.declared.catalog.Graph.{Graph}
@@ -55,12 +55,6 @@ candidate_is catalog graph path other more =
     (sym (append-nil other.tags)) (sym (append-nil spots))
     ∙ nothing_besides catalog graph 83 (singletons_of path) (candidate_laid catalog graph apart path other ∷ []) None (one_column ∷ []) more
 
-pub block_is : (catalog : Catalog) (graph : Graph) (query : CheckedQuery) (block : Block)
-    → with_conjuncts (select_of_block catalog graph 65 apart query block) (flat_map (shorter_of catalog graph apart) (laid_block catalog graph 65 apart query block)) ≡ selected_block catalog graph apart query block
-block_is catalog graph query block =
-    nothing_besides catalog graph 65 (Rattle.graph_meaning.specs.Answers.query_singletons query) (laid_block catalog graph 65 apart query block) query.condition query.columns
-    (flat_map (shorter_of catalog graph apart) (laid_block catalog graph 65 apart query block))
-
 take_next : {X : Type 0} (xs : List X) (i : ℕ) (x : X) → x ≡ get_or xs i x → i < length xs → take (suc i) xs ≡ take i xs ++ x ∷ []
 take_next [] i x is h = absurd (omega arith)
 take_next (y ∷ ys) zero x is h = ap (λ z. z ∷ []) (sym is)
@@ -80,32 +74,3 @@ module _ {A B : Type 0} (f : A → B) (p : A → Bool) (xs : List A) (i : ℕ) (
 
   pub left_next : (before made : List B) → made ≡ before ++ map f (filter p (take i xs)) → p x ≡ false → made ≡ before ++ map f (filter p (take (i + 1) xs))
   left_next before made so_far fails = so_far ∙ ap (λ l. before ++ l) (sym (kept_next false fails ∙ append-nil (map f (filter p (take i xs)))))
-
-module _ (catalog : Catalog) (graph : Graph) where
-  -- a path without a selector asks nothing
-  pub nothing_asked : (path : CheckedPath) (part : PathBlock) (items : List ℕ) (before : List Conjunct) → path.all_shortest ≡ false
-      → before ≡ before ++ shorter_of catalog graph apart (lay catalog graph 65 apart path part items)
-  nothing_asked path part items before unselected =
-      sym (append-nil before)
-      ∙ ap (λ b. before ++ cond b (Rattle.path_lowering.specs.Shortest.none_shorter catalog graph apart path part (spots_along Vertex part.elements items)) []) (sym unselected)
-
-  pub all_asked : (path : CheckedPath) (part : PathBlock) (items : List ℕ) (before : List Conjunct) (outside : List Spot) (blocks : List PathBlock) → path.all_shortest ≡ true
-      → outside ≡ spots_along Vertex part.elements items → blocks ≡ path_blocks graph part.path path
-      → before ++ map (λ other. NotExists (candidate_select catalog graph (candidate_laid catalog graph apart path other) outside)) (filter (is_candidate part) blocks)
-      ≡ before ++ shorter_of catalog graph apart (lay catalog graph 65 apart path part items)
-  all_asked path part items before outside blocks selected seen given =
-      ap₂ (λ o l. before ++ map (λ other. NotExists (candidate_select catalog graph (candidate_laid catalog graph apart path other) o)) (filter (is_candidate part) l)) seen given
-      ∙ ap (λ b. before ++ cond b (Rattle.path_lowering.specs.Shortest.none_shorter catalog graph apart path part (spots_along Vertex part.elements items)) []) (sym selected)
-
-  -- the conjuncts of a first path, and those of the others
-  pub shorter_joined : (paths : List CheckedPath) (parts : List PathBlock) (items : List ℕ) (path : CheckedPath) (part : PathBlock) (k : ℕ) (before made : List Conjunct)
-      → path ≡ get_or paths 0 path → 1 ≤ length paths → part ≡ get_or parts 0 part → 1 ≤ length parts → k ≡ length part.elements
-      → made ≡ before ++ shorter_of catalog graph apart (lay catalog graph 65 apart path part items)
-      → made ++ flat_map (shorter_of catalog graph apart) (lay_all catalog graph 65 apart (take (length paths - 1) (drop 1 paths)) (take (length parts - 1) (drop 1 parts)) (take (length items - k) (drop k items)))
-      ≡ before ++ flat_map (shorter_of catalog graph apart) (lay_all catalog graph 65 apart paths parts items)
-  shorter_joined paths parts items path part k before made p some q more n is =
-      ap₂ (λ l r. l ++ flat_map (shorter_of catalog graph apart) (lay_all catalog graph 65 apart (take (length paths - 1) (drop 1 paths)) (take (length parts - 1) (drop 1 parts)) r)) is
-      (behind_is items k ∙ ap (λ m. drop m items) n)
-      ∙ append_assoc before (shorter_of catalog graph apart (lay catalog graph 65 apart path part items))
-      (flat_map (shorter_of catalog graph apart) (lay_all catalog graph 65 apart (take (length paths - 1) (drop 1 paths)) (take (length parts - 1) (drop 1 parts)) (drop (length part.elements) items)))
-      ∙ ap₂ (λ xs ys. before ++ flat_map (shorter_of catalog graph apart) (lay_all catalog graph 65 apart xs ys items)) (sym (head_tail paths path p some)) (sym (head_tail parts part q more))

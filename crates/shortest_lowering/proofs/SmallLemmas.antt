@@ -1,25 +1,28 @@
 -- The small catalog is valid, and the small query can be lowered.
-use Rattle.std.proofs.Common.{arith, ◌≡◌, ℕ, ◌<◌, ◌≤◌, true, List, [], ◌∷◌, inl, inr, map, refl, sym, ap, ◌∙◌, subst, length, flat_map, None, Some, ◌^◌}
+use Rattle.std.proofs.Common.{arith, ◌≡◌, ℕ, ◌<◌, ◌≤◌, true, List, [], ◌∷◌, inl, inr, map, refl, sym, ap₂, ◌∙◌, subst, length, flat_map, None, Some, ◌^◌}
 use Rattle.std.specs.List.{AllByRecursion}
 use Rattle.std.proofs.lemmas.Slice.Eq.{bytes_eq-Decides}
 use Rattle.std.specs.Str.{bytes_eq}
 use Rattle.multisets.specs.Bags.{IsIn, IsWithoutRepeats}
+use Rattle.graph_ast.specs.declared.catalog.Catalog.{Catalog}
 use Rattle.graph_ast.specs.declared.catalog.Table.{Table}
 use Rattle.graph_ast.specs.declared.catalog.Key.{Key}
 use Rattle.graph_ast.specs.declared.catalog.Column.{Column}
 use Rattle.graph_ast.specs.declared.catalog.Element.{Element}
 use Rattle.graph_ast.specs.declared.catalog.Graph.{Graph}
 use Rattle.graph_ast.specs.declared.catalog.EdgeElement.{EdgeElement}
-use Rattle.graph_ast.specs.Lookups.{table_at, column_at, elements_of}
+use Rattle.graph_ast.specs.Lookups.{table_at, column_at, elements_of, graph_at}
 use Rattle.graph_ast.specs.Catalogs.{AreColumnsOf, IsKeyOf, IsValidTable, IsValidElement, IsValidEnd, IsValidGraph, IsValidCatalog, HaveOneClassEach}
 use Rattle.expr_tree.specs.Leaves.{EachLeaf}
 use Rattle.expr_tree.proofs.FormLemmas.{leaves}
 use Rattle.pgq_base.specs.declared.value.Value.TheVariants.{Number}
 use Rattle.graph_ast.specs.declared.checked.CheckedPath.{CheckedPath}
+use Rattle.graph_ast.specs.declared.checked.CheckedQuery.{CheckedQuery}
 use Rattle.graph_ast.specs.declared.checked.Output.{Output}
 use Rattle.graph_ast.specs.declared.checked.Piece.{Piece}
 use Rattle.graph_ast.specs.declared.blocks.Alternative.{Alternative}
 use Rattle.graph_ast.specs.declared.blocks.Block.{Block}
+use Rattle.graph_ast.specs.declared.blocks.PathBlock.{PathBlock}
 use Rattle.graph_meaning.specs.Lists.{all_different}
 use Rattle.graph_meaning.specs.Choices.{choices, expansion_of, pattern_of}
 use Rattle.graph_meaning.specs.Blocks.{blocks, query_path_blocks}
@@ -106,7 +109,7 @@ graph_valid = record {
   property_classes = one_class;
 }
 
-pub small_valid : IsValidCatalog small_catalog
+small_valid : IsValidCatalog small_catalog
 small_valid = record {
   few_tables = omega arith;
   few_graphs = omega arith;
@@ -128,10 +131,10 @@ without_conditions =
     each_in (λ (path : CheckedPath). (choice : Alternative) → IsIn choice (choices path) → (expansion_of path choice).conditions ≡ []) small_query.paths
     (each_in (λ (choice : Alternative). (expansion_of small_path choice).conditions ≡ []) (choices small_path) (refl, (refl, tt)), tt)
 
-pub blocks_are : small_blocks ≡ blocks small_graph small_query
+blocks_are : small_blocks ≡ blocks small_graph small_query
 blocks_are = refl
 
-pub path_blocks_are : small_path_blocks ∷ [] ≡ query_path_blocks small_graph small_query
+path_blocks_are : small_path_blocks ∷ [] ≡ query_path_blocks small_graph small_query
 path_blocks_are = refl
 
 lowerable : IsLowerable small_graph small_query
@@ -146,5 +149,16 @@ lowerable = record {
       (omega arith, (omega arith, tt)) block (subst (λ (l : List Block). IsIn block l) (sym blocks_are) h);
 }
 
-pub small_served : IsServed small_catalog small_query
+small_served : IsServed small_catalog small_query
 small_served = record { valid = small_valid; graph = omega arith; lowerable = lowerable }
+
+-- so are all that equal them
+module _ (catalog : Catalog) (query : CheckedQuery) (same : catalog ≡ small_catalog) (own : query ≡ small_query) where
+  pub served_by : IsServed catalog query
+  served_by = subst (λ (c : Catalog). IsServed c query) (sym same) (subst (λ (q : CheckedQuery). IsServed small_catalog q) (sym own) small_served)
+
+  pub blocks_by : (all : List Block) → all ≡ small_blocks → all ≡ blocks (graph_at catalog query.graph) query
+  blocks_by all is = is ∙ blocks_are ∙ sym (ap₂ (λ (c : Catalog) (q : CheckedQuery). blocks (graph_at c q.graph) q) same own)
+
+  pub path_blocks_by : (all : List (List PathBlock)) → all ≡ small_path_blocks ∷ [] → all ≡ query_path_blocks (graph_at catalog query.graph) query
+  path_blocks_by all is = is ∙ path_blocks_are ∙ sym (ap₂ (λ (c : Catalog) (q : CheckedQuery). query_path_blocks (graph_at c q.graph) q) same own)

@@ -9,7 +9,7 @@ use graph_ast::{
     Table, Tags,
 };
 use pgq_base::{List, Name, NoMemory, Value};
-use sql_algebra::{Conjunct, Select};
+use sql_algebra::{Conjunct, Select, SqlQuery};
 use std::alloc::Global;
 use std::process::Abort;
 use std::test::Fail;
@@ -262,15 +262,33 @@ fn has_none_shorter(select: &Select) -> bool {
     false
 }
 
-// The path of no edge has no shorter one; the path of one edge has that of no edge.
-#[test]
-fn shortest_of_two(rt: HostRuntime) -> Result<(), Fail> {
-    let alloc = rt.alloc();
+fn lowered(
+    alloc: Global,
+    catalog: &Catalog,
+    query: &CheckedQuery,
+    blocks: &[Block],
+    given: &[List<PathBlock>],
+) -> Result<SqlQuery, NoMemory>
+    requires catalog { catalog.now ≡ catalog_of_query }
+    requires query { query.now ≡ query_of_test }
+    requires blocks { blocks.now ≡ blocks_of_query }
+    requires given { given.now ≡ path_blocks_of_query ∷ [] }
+{
+    lower_selected(alloc, catalog, query, blocks, given)
+}
+
+fn lowered_query(alloc: Global) -> Result<SqlQuery, NoMemory> {
     let catalog = catalog(alloc)?;
     let query = query(alloc)?;
     let all = blocks(alloc)?;
     let given = one(alloc, path_blocks(alloc)?)?;
-    let sql = lower_selected(alloc, &catalog, &query, all.as_slice(), given.as_slice())?;
+    lowered(alloc, &catalog, &query, all.as_slice(), given.as_slice())
+}
+
+// The path of no edge has no shorter one; the path of one edge has that of no edge.
+#[test]
+fn shortest_of_two(rt: HostRuntime) -> Result<(), Fail> {
+    let sql = lowered_query(rt.alloc())?;
     let selects = sql.selects.as_slice();
     assert!(rt; selects.len() == 2);
     assert!(rt; !has_none_shorter(&selects[0]));
