@@ -6,7 +6,6 @@ mod lower;
 mod means;
 mod shorter;
 mod sound_laws;
-
 #[cfg(test)]
 mod tests;
 
