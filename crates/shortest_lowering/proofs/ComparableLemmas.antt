@@ -29,12 +29,11 @@ use Rattle.path_lowering.specs.declared.spots.Kind.{Kind}
 use Rattle.path_lowering.specs.declared.spots.Kind.TheVariants.{Vertex, Edge}
 use Rattle.path_lowering.specs.declared.spots.Spot.{Spot}
 use Rattle.path_lowering.specs.Spots.{element_of_kind, element_at, same_kind, spots_along}
-use Rattle.path_lowering.specs.Shown.{count_of_kind}
 use Rattle.path_lowering.specs.Blocks.{own_spots, source_of}
 use Rattle.path_lowering.specs.Selects.{IsBlockLaid}
 use Rattle.path_lowering.specs.Lowered.{IsLowerable}
 use Rattle.path_lowering.specs.Apart.{apart}
-use Rattle.path_lowering.specs.Layable.{IsLayable, IsServed, AreEnds}
+use Rattle.path_lowering.specs.Layable.{IsLayable, IsServed}
 use Rattle.path_lowering.specs.Shortest.{spot_at, last_place, one_column, candidate_laid}
 use Rattle.path_lowering.proofs.Lists.{append-nil}
 use Rattle.path_lowering.proofs.ApartLemmas.{apart_combines}
@@ -43,7 +42,7 @@ use Rattle.path_lowering.proofs.CandidateLaid.{candidate_is_laid}
 use Rattle.path_lowering.proofs.ConditionLemmas.{tagged_map}
 use Rattle.path_lowering.proofs.EndLemmas.{first_element, last_element}
 use Rattle.path_lowering.proofs.Facts.{in_at, in_map}
-use Rattle.path_lowering.proofs.LaidLemmas.{Belongs, belongs, elements_there, some_number, plan_long}
+use Rattle.path_lowering.proofs.LaidLemmas.{Belongs, belongs, elements_there, some_number}
 use Rattle.path_lowering.proofs.LayableLemmas.{has_key}
 use Rattle.path_lowering.proofs.PlacingLemmas.{each_of}
 use Rattle.path_lowering.proofs.ServedLemmas.{graph_valid}

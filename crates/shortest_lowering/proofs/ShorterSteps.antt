@@ -1,31 +1,21 @@
 -- The SELECT of a candidate from its parts, and the conjunct of one candidate more.
-use Rattle.std.proofs.Common.{◌≡◌, ℕ, zero, suc, ◌-◌, ◌+◌, ◌≤◌, ◌<◌, add-one, Bool, true, false, cond, List, [], ◌∷◌, ◌++◌, map, filter, flat_map, length, get_or, take, drop, refl, sym, ap, ap₂, ◌∙◌, arith, append_assoc, Option, None}
+use Rattle.std.proofs.Common.{◌≡◌, ℕ, zero, suc, ◌+◌, ◌<◌, add-one, Bool, true, false, cond, List, [], ◌∷◌, ◌++◌, map, filter, length, get_or, take, sym, ap, ap₂, ◌∙◌, arith, append_assoc, Option, None}
 use Rattle.graph_ast.specs.declared.catalog.Catalog.{Catalog}
 use Rattle.graph_ast.specs.declared.catalog.Graph.{Graph}
 use Rattle.graph_ast.specs.declared.checked.CheckedPath.{CheckedPath}
-use Rattle.graph_ast.specs.declared.checked.CheckedQuery.{CheckedQuery}
 use Rattle.graph_ast.specs.declared.checked.Output.{Output}
 use Rattle.graph_ast.specs.declared.blocks.Tags.{Tags}
 use Rattle.graph_ast.specs.declared.blocks.PathBlock.{PathBlock}
-use Rattle.graph_ast.specs.declared.blocks.Block.{Block}
 use Rattle.graph_meaning.specs.Choices.{Condition, singletons_of}
-use Rattle.graph_meaning.specs.Weights.{is_candidate}
-use Rattle.graph_meaning.specs.Blocks.{path_blocks}
 use Rattle.sql_algebra.specs.declared.tree.Conjunct.{Conjunct}
-use Rattle.sql_algebra.specs.declared.tree.Conjunct.TheVariants.{Plain, NotExists}
-use Rattle.path_lowering.specs.declared.spots.Kind.TheVariants.{Vertex}
 use Rattle.path_lowering.specs.declared.spots.Spot.{Spot}
-use Rattle.path_lowering.specs.Spots.{spots_along}
 use Rattle.path_lowering.specs.Emitted.{SqlCondition, mode_conditions, sharing_conditions}
 use Rattle.path_lowering.specs.Blocks.{Laid, laid_tags, laid_spots, alternatives_of, block_conditions}
 use Rattle.path_lowering.specs.Selects.{select_with, select_for, select_besides}
-use Rattle.path_lowering.specs.Lowered.{lay, lay_all, laid_block, select_of_block}
-use Rattle.path_lowering.specs.Shortest.{one_column, ends_across, candidate_select, candidate_laid}
+use Rattle.path_lowering.specs.Shortest.{one_column, candidate_laid}
 use Rattle.path_lowering.specs.Apart.{apart}
 use Rattle.path_lowering.proofs.Lists.{append-nil, map-append, filter-append}
-use Rattle.path_lowering.proofs.PathSteps.{behind_is, head_tail}
 use Rattle.shortest_lowering.specs.Comparable.{candidate_spots, candidate_conditions, with_conjuncts}
-use Rattle.shortest_lowering.specs.Selected.{shorter_of, selected_block}
 
 nothing_besides : (catalog : Catalog) (graph : Graph) (prefix : ℕ) (names : List (List ℕ)) (parts : List Laid) (condition : Option Condition)
     (outputs : List Output) (more : List Conjunct)

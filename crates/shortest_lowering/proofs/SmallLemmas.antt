@@ -1,5 +1,5 @@
 -- The small catalog is valid, and the small query can be lowered.
-use Rattle.std.proofs.Common.{arith, ◌≡◌, ℕ, ◌<◌, ◌≤◌, true, List, [], ◌∷◌, inl, inr, map, refl, sym, ap₂, ◌∙◌, subst, length, flat_map, None, Some, ◌^◌}
+use Rattle.std.proofs.Common.{arith, ◌≡◌, ℕ, ◌<◌, true, List, [], ◌∷◌, inl, inr, map, refl, sym, ap₂, ◌∙◌, subst, length, flat_map, None, Some, ◌^◌}
 use Rattle.std.specs.List.{AllByRecursion}
 use Rattle.std.proofs.lemmas.Slice.Eq.{bytes_eq-Decides}
 use Rattle.std.specs.Str.{bytes_eq}
@@ -7,12 +7,10 @@ use Rattle.multisets.specs.Bags.{IsIn, IsWithoutRepeats}
 use Rattle.graph_ast.specs.declared.catalog.Catalog.{Catalog}
 use Rattle.graph_ast.specs.declared.catalog.Table.{Table}
 use Rattle.graph_ast.specs.declared.catalog.Key.{Key}
-use Rattle.graph_ast.specs.declared.catalog.Column.{Column}
 use Rattle.graph_ast.specs.declared.catalog.Element.{Element}
-use Rattle.graph_ast.specs.declared.catalog.Graph.{Graph}
 use Rattle.graph_ast.specs.declared.catalog.EdgeElement.{EdgeElement}
 use Rattle.graph_ast.specs.Lookups.{table_at, column_at, elements_of, graph_at}
-use Rattle.graph_ast.specs.Catalogs.{AreColumnsOf, IsKeyOf, IsValidTable, IsValidElement, IsValidEnd, IsValidGraph, IsValidCatalog, HaveOneClassEach}
+use Rattle.graph_ast.specs.Catalogs.{AreColumnsOf, IsValidTable, IsValidElement, IsValidEnd, IsValidGraph, IsValidCatalog, HaveOneClassEach}
 use Rattle.expr_tree.specs.Leaves.{EachLeaf}
 use Rattle.expr_tree.proofs.FormLemmas.{leaves}
 use Rattle.pgq_base.specs.declared.value.Value.TheVariants.{Number}

@@ -1,5 +1,5 @@
 -- What is known of the places of a candidate that can be laid.
-use Rattle.std.proofs.Common.{◌≡◌, ℕ, zero, suc, ◌+◌, ◌≤◌, ◌<◌, add-one, List, [], ◌∷◌, ◌++◌, length, get_or, slice_index_or, refl, ap, ◌∙◌, subst, sym, arith}
+use Rattle.std.proofs.Common.{◌≡◌, ℕ, zero, suc, ◌+◌, ◌≤◌, ◌<◌, add-one, List, [], ◌∷◌, ◌++◌, length, get_or, slice_index_or, ap, ◌∙◌, subst, sym, arith}
 use Rattle.std.specs.List.{range_with_len}
 use Rattle.std.proofs.lemmas.List.FromFn.{length-range_with_len}
 use Rattle.multisets.specs.Bags.{IsIn}

@@ -1,12 +1,11 @@
 -- A catalog of one graph over two tables, and a query of the shortest paths of one edge at most in it, with its graph blocks.
-use Rattle.std.specs.Prelude.{ℕ, Bool, true, false, pos, List, [], ◌∷◌, codes, None}
+use Rattle.std.specs.Prelude.{ℕ, true, pos, List, [], ◌∷◌, codes, None}
 use Rattle.pgq_base.specs.declared.value.Value.TheVariants.{Number}
 use Rattle.expr_tree.specs.declared.tree.Expr.TheVariants.{Lit}
 use Rattle.graph_ast.specs.declared.catalog.Catalog.{Catalog}
 use Rattle.graph_ast.specs.declared.catalog.Table.{Table}
 use Rattle.graph_ast.specs.declared.catalog.Column.{Column}
 use Rattle.graph_ast.specs.declared.catalog.ColumnType.TheVariants.{Integer}
-use Rattle.graph_ast.specs.declared.catalog.Key.{Key}
 use Rattle.graph_ast.specs.declared.catalog.Graph.{Graph}
 use Rattle.graph_ast.specs.declared.catalog.Element.{Element}
 use Rattle.graph_ast.specs.declared.catalog.EdgeElement.{EdgeElement}
@@ -14,7 +13,6 @@ use Rattle.graph_ast.specs.declared.query.Direction.TheVariants.{Right}
 use Rattle.graph_ast.specs.declared.query.Mode.TheVariants.{Walk}
 use Rattle.graph_ast.specs.declared.checked.CheckedQuery.{CheckedQuery}
 use Rattle.graph_ast.specs.declared.checked.CheckedPath.{CheckedPath}
-use Rattle.graph_ast.specs.declared.checked.Operand.{Operand}
 use Rattle.graph_ast.specs.declared.checked.Output.{Output}
 use Rattle.graph_ast.specs.declared.checked.Step.{Step}
 use Rattle.graph_ast.specs.declared.checked.Step.TheVariants.{One, Part}

@@ -1,5 +1,4 @@
-use Rattle.std.proofs.Common.{◌≡◌, ◌∷◌, [], IfOk, map, ap, ap₂, sym, ◌∙◌, List}
-use Rattle.sql_algebra.specs.declared.tree.Conjunct.{Conjunct}
+use Rattle.std.proofs.Common.{map, ap, ap₂, ◌∙◌, List}
 use Rattle.sql_algebra.specs.declared.tree.Conjunct.TheVariants.{Plain}
 use Rattle.sql_algebra.specs.declared.tree.Select.{Select}
 use Rattle.path_lowering.specs.Shortest.{ends_across}

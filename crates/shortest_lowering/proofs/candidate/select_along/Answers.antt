@@ -1,4 +1,4 @@
-use Rattle.std.proofs.Common.{◌≡◌, ◌∷◌, [], ◌++◌, IfOk, List, map, length, ap, sym, ◌∙◌}
+use Rattle.std.proofs.Common.{◌++◌, List, map, length, ap, ◌∙◌}
 use Rattle.path_lowering.specs.declared.properties.Place.{Place}
 use Rattle.path_lowering.proofs.PlacingSteps.{if_ok}
 use Rattle.shortest_lowering.proofs.StandingLemmas.{properties_there, spots_there}

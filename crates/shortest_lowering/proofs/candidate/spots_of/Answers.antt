@@ -1,4 +1,4 @@
-use Rattle.std.proofs.Common.{◌≡◌, ◌≤◌, ℕ, List, length, ap, sym, subst, ◌∙◌}
+use Rattle.std.proofs.Common.{◌≤◌, ℕ, List, length, sym, subst, ◌∙◌}
 use Rattle.shortest_lowering.proofs.StandingLemmas.{items_enough}
 use Rattle.shortest_lowering.proofs.candidate.spots_of.Goals as goal
 

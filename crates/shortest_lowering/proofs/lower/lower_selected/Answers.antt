@@ -1,4 +1,4 @@
-use Rattle.std.proofs.Common.{◌≡◌, [], IfOk, sym, subst}
+use Rattle.std.proofs.Common.{[], sym, subst}
 use Rattle.multisets.specs.Bags.{IsSameMultiset}
 use Rattle.graph_meaning.specs.Answers.{answer}
 use Rattle.sql_algebra.specs.declared.tree.SqlQuery.{SqlQuery}

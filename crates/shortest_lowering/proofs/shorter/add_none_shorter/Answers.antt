@@ -1,4 +1,4 @@
-use Rattle.std.proofs.Common.{◌≡◌, ◌∙◌, sym, ap}
+use Rattle.std.proofs.Common.{◌∙◌, sym, ap}
 use Rattle.graph_ast.specs.declared.blocks.PathBlock.{PathBlock}
 use Rattle.graph_meaning.specs.Weights.{is_candidate}
 use Rattle.graph_meaning.proofs.Members.{in_filter}

@@ -1,4 +1,4 @@
-use Rattle.std.proofs.Common.{◌≡◌, ◌∙◌, ℕ, List, [], filter, ap, sym, subst}
+use Rattle.std.proofs.Common.{◌∙◌, ℕ, List, [], filter, ap, sym, subst}
 use Rattle.multisets.specs.Bags.{IsIn}
 use Rattle.graph_ast.specs.declared.blocks.PathBlock.{PathBlock}
 use Rattle.graph_meaning.specs.Weights.{is_candidate}
