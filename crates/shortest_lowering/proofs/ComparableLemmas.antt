@@ -50,11 +50,13 @@ use Rattle.path_lowering.proofs.Theorems.{first_item}
 use Rattle.shortest_lowering.specs.Comparable.{candidate_spots, IsStanding, IsPosed, IsComparable}
 
 -- members that are the same as the first are the same
-first_same : {X : Type 0} (same : X → X → Bool) (is : (x y : X) → same x y ≡ true → x ≡ y) (x : X) (xs : List X) → list_all (same x) xs ≡ true → (y : X) → IsIn y (x ∷ xs) → x ≡ y
+first_same : {X : Type 0} (same : X → X → Bool) (is : (x y : X) → same x y ≡ true → x ≡ y) (x : X) (xs : List X)
+    → list_all (same x) xs ≡ true → (y : X) → IsIn y (x ∷ xs) → x ≡ y
 first_same same is x xs all y (inl e) = e
 first_same same is x xs all y (inr h) = is x y (each_of (same x) xs all y h)
 
-all_alike : {X : Type 0} (same : X → X → Bool) (is : (x y : X) → same x y ≡ true → x ≡ y) (xs : List X) → all_same same xs ≡ true → (x y : X) → IsIn x xs → IsIn y xs → x ≡ y
+all_alike : {X : Type 0} (same : X → X → Bool) (is : (x y : X) → same x y ≡ true → x ≡ y) (xs : List X)
+    → all_same same xs ≡ true → (x y : X) → IsIn x xs → IsIn y xs → x ≡ y
 all_alike same is [] all x y h k = absurd h
 all_alike same is (z ∷ zs) all x y h k = sym (first_same same is z zs all x h) ∙ first_same same is z zs all y k
 
@@ -65,14 +67,18 @@ kind_is Edge Vertex h = cc
 kind_is Edge Edge h = refl
 
 -- what places of one name have in common
-alike_at : {X : Type 0} (same : X → X → Bool) (is : (x y : X) → same x y ≡ true → x ≡ y) (f : Spot → X) (names : List (List ℕ)) (tags : List Tags) (spots : List Spot)
-    → agree same names tags (map f spots) ≡ true → (name : List ℕ) → IsIn name names → (a b : Spot) → IsIn a (tagged name tags spots) → IsIn b (tagged name tags spots) → f a ≡ f b
+alike_at : {X : Type 0} (same : X → X → Bool) (is : (x y : X) → same x y ≡ true → x ≡ y) (f : Spot → X)
+    (names : List (List ℕ)) (tags : List Tags) (spots : List Spot) → agree same names tags (map f spots) ≡ true
+    → (name : List ℕ) → IsIn name names → (a b : Spot) → IsIn a (tagged name tags spots) → IsIn b (tagged name tags spots) → f a ≡ f b
 alike_at same is f names tags spots all name there a b h k =
-    let own : all_same same (map f (tagged name tags spots)) ≡ true = ap (all_same same) (sym (tagged_map f name tags spots)) ∙ each_of (λ n. all_same same (tagged n tags (map f spots))) names all name there in
-    all_alike same is (map f (tagged name tags spots)) own (f a) (f b) (in_map f a (tagged name tags spots) h) (in_map f b (tagged name tags spots) k)
+    let own : all_same same (map f (tagged name tags spots)) ≡ true = ap (all_same same) (sym (tagged_map f name tags spots))
+    ∙ each_of (λ n. all_same same (tagged n tags (map f spots))) names all name there in
+    all_alike same is (map f (tagged name tags spots)) own (f a) (f b)
+    (in_map f a (tagged name tags spots) h) (in_map f b (tagged name tags spots) k)
 
 -- the places behind some, where they begin with one
-next_of : {X : Type 0} (d : X) (xs : List X) (n : ℕ) (y : X) (ys : List X) → drop n xs ≡ y ∷ ys → (n < length xs) × ((slice_index_or xs n d ≡ y) × (drop (suc n) xs ≡ ys))
+next_of : {X : Type 0} (d : X) (xs : List X) (n : ℕ) (y : X) (ys : List X) → drop n xs ≡ y ∷ ys
+    → (n < length xs) × ((slice_index_or xs n d ≡ y) × (drop (suc n) xs ≡ ys))
 next_of d [] zero y ys e = cc
 next_of d [] (suc n) y ys e = cc
 next_of d (x ∷ xs) zero y ys e = (omega arith, (cc, cc))
@@ -85,8 +91,10 @@ path_is : (graph : Graph) (path : CheckedPath) (place : ℕ) (part : PathBlock) 
 path_is graph path place part h =
     let made = from_map (block_of graph path place) part (shapes graph path) h in ap (λ (b : PathBlock). b.path) (sym made.2)
 
-module _ (catalog : Catalog) (graph : Graph) (valid : IsValidGraph catalog graph) (instance : InstanceRows) (fits : Fits catalog instance) (query : CheckedQuery) (ok : IsLowerable graph query) where
-  layable : (path : CheckedPath) (place : ℕ) (part : PathBlock) → IsIn path query.paths → IsIn part (path_blocks graph place path) → length part.elements < 2 ^ 32 → IsLayable graph path part
+module _ (catalog : Catalog) (graph : Graph) (valid : IsValidGraph catalog graph) (instance : InstanceRows) (fits : Fits catalog instance)
+    (query : CheckedQuery) (ok : IsLowerable graph query) where
+  layable : (path : CheckedPath) (place : ℕ) (part : PathBlock) → IsIn path query.paths → IsIn part (path_blocks graph place path)
+      → length part.elements < 2 ^ 32 → IsLayable graph path part
   layable path place part among h few =
       let is = belongs catalog graph valid instance fits query ok path place part among h in
       record {
@@ -127,8 +135,8 @@ module _ (catalog : Catalog) (graph : Graph) (valid : IsValidGraph catalog graph
           (first_item laid.shared (other.tags ++ []) (candidate_spots other ++ []) laid.some
           (ap length tags_are ∙ known.many ∙ sym many ∙ ap length (sym spots_are)) laid.planned)
 
-      alike : (name : List ℕ) (a b : Spot) → IsIn name (singletons_of path) → IsIn a (tagged name other.tags (candidate_spots other)) → IsIn b (tagged name other.tags (candidate_spots other))
-          → element_at graph a ≡ element_at graph b
+      alike : (name : List ℕ) (a b : Spot) → IsIn name (singletons_of path) → IsIn a (tagged name other.tags (candidate_spots other))
+          → IsIn b (tagged name other.tags (candidate_spots other)) → element_at graph a ≡ element_at graph b
       alike name a b k h i =
           ap₂ (λ kind number. element_of_kind graph kind number)
           (alike_at same_kind kind_is (λ spot. spot.kind) (singletons_of path) other.tags (candidate_spots other)
@@ -145,7 +153,8 @@ module _ (catalog : Catalog) (graph : Graph) (valid : IsValidGraph catalog graph
       }
 
     -- a path block and its candidates
-    module _ (part : PathBlock) (part_in : IsIn part (path_blocks graph place path)) (few : length part.elements < 2 ^ 32) (items : List ℕ) (enough_items : length part.elements ≤ length items) where
+    module _ (part : PathBlock) (part_in : IsIn part (path_blocks graph place path)) (few : length part.elements < 2 ^ 32)
+        (items : List ℕ) (enough_items : length part.elements ≤ length items) where
       here : Belongs catalog graph valid instance fits query ok path part
       here = belongs catalog graph valid instance fits query ok path place part among part_in
 
@@ -180,16 +189,20 @@ module _ (catalog : Catalog) (graph : Graph) (valid : IsValidGraph catalog graph
               some = own_some;
               some_outside = some_outside;
               first = has_key catalog graph valid (spot_at own 0)
-                  (elements_there catalog graph valid instance fits query ok other.elements numbers own_known.fitting.numbers (spot_at own 0) (in_at own 0 no_spot (omega (arith, own_some))));
+                  (elements_there catalog graph valid instance fits query ok other.elements numbers own_known.fitting.numbers (spot_at own 0)
+                  (in_at own 0 no_spot (omega (arith, own_some))));
               first_outside = has_key catalog graph valid (spot_at outside 0)
-                  (elements_there catalog graph valid instance fits query ok part.elements items here.fitting.numbers (spot_at outside 0) (in_at outside 0 no_spot (omega (arith, some_outside))));
+                  (elements_there catalog graph valid instance fits query ok part.elements items here.fitting.numbers (spot_at outside 0)
+                  (in_at outside 0 no_spot (omega (arith, some_outside))));
               same_first =
                   first_element graph other.elements numbers own_known.fitting.numbers own_enough ∙ ap (vertex_element graph) (eqb-true _ _ same.0)
                   ∙ sym (first_element graph part.elements items here.fitting.numbers enough_items);
               last = has_key catalog graph valid (spot_at own (last_place own))
-                  (elements_there catalog graph valid instance fits query ok other.elements numbers own_known.fitting.numbers (spot_at own (last_place own)) (in_at own (last_place own) no_spot (omega (arith, own_some))));
+                  (elements_there catalog graph valid instance fits query ok other.elements numbers own_known.fitting.numbers (spot_at own (last_place own))
+                  (in_at own (last_place own) no_spot (omega (arith, own_some))));
               last_outside = has_key catalog graph valid (spot_at outside (last_place outside))
-                  (elements_there catalog graph valid instance fits query ok part.elements items here.fitting.numbers (spot_at outside (last_place outside)) (in_at outside (last_place outside) no_spot (omega (arith, some_outside))));
+                  (elements_there catalog graph valid instance fits query ok part.elements items here.fitting.numbers (spot_at outside (last_place outside))
+                  (in_at outside (last_place outside) no_spot (omega (arith, some_outside))));
               same_last =
                   ap (λ n. element_at graph (spot_at own (n - 1))) own_many
                   ∙ last_element graph other.elements numbers own_known.fitting.numbers own_enough ∙ ap (vertex_element graph) (eqb-true _ _ same.1)
@@ -199,7 +212,8 @@ module _ (catalog : Catalog) (graph : Graph) (valid : IsValidGraph catalog graph
           }
 
   -- path by path, where the path blocks of all paths are given from some place on
-  all_comparable : (candidates : List (List PathBlock)) (n : ℕ) (paths : List CheckedPath) (parts : List PathBlock) → ((path : CheckedPath) → IsIn path paths → IsIn path query.paths)
+  all_comparable : (candidates : List (List PathBlock)) (n : ℕ) (paths : List CheckedPath) (parts : List PathBlock)
+      → ((path : CheckedPath) → IsIn path paths → IsIn path query.paths)
       → length (flat_map (λ part. part.elements) parts) < 2 ^ 32
       → drop n candidates ≡ map (λ (numbered : ℕ × CheckedPath). path_blocks graph numbered.0 numbered.1) (enumerate_from n paths)
       → AllZip IsIn parts (map (λ (numbered : ℕ × CheckedPath). path_blocks graph numbered.0 numbered.1) (enumerate_from n paths))
@@ -211,7 +225,8 @@ module _ (catalog : Catalog) (graph : Graph) (valid : IsValidGraph catalog graph
       let both = length-append p.elements (flat_map (λ part. part.elements) ps) in
       let few_own : length p.elements < 2 ^ 32 = omega (arith, both, few) in
       let few_others : length (flat_map (λ part. part.elements) ps) < 2 ^ 32 = omega (arith, both, few) in
-      let next = next_of [] candidates n (path_blocks graph n path) (map (λ (numbered : ℕ × CheckedPath). path_blocks graph numbered.0 numbered.1) (enumerate_from (n + 1) paths)) given in
+      let next = next_of [] candidates n (path_blocks graph n path)
+      (map (λ (numbered : ℕ × CheckedPath). path_blocks graph numbered.0 numbered.1) (enumerate_from (n + 1) paths)) given in
       let is = path_is graph path n p h.0 in
       let after : n + 1 ≡ suc n = omega arith in (
         record {
@@ -225,15 +240,18 @@ module _ (catalog : Catalog) (graph : Graph) (valid : IsValidGraph catalog graph
       )
 
 -- a graph block of a query that can be lowered
-pub comparable : (catalog : Catalog) (query : CheckedQuery) (served : IsServed catalog query) (fits : Fits catalog (without_rows catalog)) (block : Block) → IsIn block (blocks (graph_at catalog query.graph) query)
+pub comparable : (catalog : Catalog) (query : CheckedQuery) (served : IsServed catalog query) (fits : Fits catalog (without_rows catalog))
+    (block : Block) → IsIn block (blocks (graph_at catalog query.graph) query)
     → AllZip (IsComparable catalog (graph_at catalog query.graph) (query_path_blocks (graph_at catalog query.graph) query)) query.paths block.paths
 comparable catalog query served fits block there =
     let graph = graph_at catalog query.graph in
     let valid = graph_valid catalog query served fits in
-    all_comparable catalog graph valid (without_rows catalog) fits query served.lowerable (query_path_blocks graph query) 0 query.paths block.paths (λ path h. h) (served.lowerable.few block there) refl
+    all_comparable catalog graph valid (without_rows catalog) fits query served.lowerable (query_path_blocks graph query) 0 query.paths block.paths
+    (λ path h. h) (served.lowerable.few block there) refl
     (block_picks catalog graph valid (without_rows catalog) fits [] query block there)
 
 -- its graph over an instance that fits
-pub fitting : (catalog : Catalog) (query : CheckedQuery) → IsServed catalog query → (instance : InstanceRows) → Fits catalog instance → IsFitting catalog (graph_at catalog query.graph) instance
+pub fitting : (catalog : Catalog) (query : CheckedQuery) → IsServed catalog query → (instance : InstanceRows) → Fits catalog instance
+    → IsFitting catalog (graph_at catalog query.graph) instance
 fitting catalog query served instance fits =
     record { valid = served.valid; there = in_at catalog.graphs query.graph (record { name = []; vertices = []; edges = [] }) served.graph; fits = fits }

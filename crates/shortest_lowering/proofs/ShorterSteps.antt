@@ -15,15 +15,18 @@ use Rattle.path_lowering.specs.Selects.{select_with, select_for, select_besides}
 use Rattle.path_lowering.specs.Shortest.{one_column, candidate_laid}
 use Rattle.path_lowering.specs.Apart.{apart}
 use Rattle.path_lowering.proofs.Lists.{append-nil, map-append, filter-append}
-use Rattle.shortest_lowering.specs.Comparable.{candidate_spots, with_conjuncts}
+use Rattle.shortest_lowering.specs.Comparable.{candidate_spots, candidate_conditions, with_conjuncts}
 
-nothing_besides : (catalog : Catalog) (graph : Graph) (prefix : ℕ) (names : List (List ℕ)) (parts : List Laid) (condition : Option Condition) (outputs : List Output) (more : List Conjunct)
+nothing_besides : (catalog : Catalog) (graph : Graph) (prefix : ℕ) (names : List (List ℕ)) (parts : List Laid) (condition : Option Condition)
+    (outputs : List Output) (more : List Conjunct)
     → with_conjuncts (select_for catalog graph prefix names parts condition outputs) more ≡ select_besides catalog graph prefix names parts condition outputs [] more
 nothing_besides catalog graph prefix names parts condition outputs more =
-    ap (λ conditions. with_conjuncts (select_with catalog graph prefix (laid_tags parts) (laid_spots parts) conditions outputs) more) (sym (append-nil (block_conditions catalog graph prefix names parts condition)))
+    ap (λ conditions. with_conjuncts (select_with catalog graph prefix (laid_tags parts) (laid_spots parts) conditions outputs) more)
+    (sym (append-nil (block_conditions catalog graph prefix names parts condition)))
 
 -- the SELECT over the same places with the same conditions
-pub select_same : (catalog : Catalog) (graph : Graph) (prefix : ℕ) (tags tags_too : List Tags) (spots spots_too : List Spot) (conditions conditions_too : List SqlCondition) (outputs outputs_too : List Output)
+pub select_same : (catalog : Catalog) (graph : Graph) (prefix : ℕ) (tags tags_too : List Tags) (spots spots_too : List Spot)
+    (conditions conditions_too : List SqlCondition) (outputs outputs_too : List Output)
     → tags ≡ tags_too → spots ≡ spots_too → conditions ≡ conditions_too → outputs ≡ outputs_too
     → select_with catalog graph prefix tags spots conditions outputs ≡ select_with catalog graph prefix tags_too spots_too conditions_too outputs_too
 select_same catalog graph prefix tags tags_too spots spots_too conditions conditions_too outputs outputs_too t s c o =
@@ -32,16 +35,15 @@ select_same catalog graph prefix tags tags_too spots spots_too conditions condit
 
 -- a candidate is one path, of which each singleton has its places
 pub candidate_is : (catalog : Catalog) (graph : Graph) (path : CheckedPath) (other : PathBlock) (more : List Conjunct)
-    → with_conjuncts (select_with catalog graph 83 other.tags (candidate_spots other)
-    ((apart (alternatives_of catalog graph 83 path other (candidate_spots other)) ++ mode_conditions catalog graph 83 path.mode (candidate_spots other))
-    ++ sharing_conditions catalog graph 83 (singletons_of path) other.tags (candidate_spots other)) (one_column ∷ [])) more
+    → with_conjuncts (select_with catalog graph 83 other.tags (candidate_spots other) (candidate_conditions catalog graph 83 path other) (one_column ∷ [])) more
     ≡ select_besides catalog graph 83 (singletons_of path) (candidate_laid catalog graph apart path other ∷ []) None (one_column ∷ []) [] more
 candidate_is catalog graph path other more =
     let spots = candidate_spots other in
     let front = apart (alternatives_of catalog graph 83 path other spots) ++ mode_conditions catalog graph 83 path.mode spots in
     ap₂ (λ (a b : List SqlCondition). with_conjuncts (select_with catalog graph 83 other.tags spots (a ++ b) (one_column ∷ [])) more)
     (sym (append-nil front)) (sym (append-nil (sharing_conditions catalog graph 83 (singletons_of path) other.tags spots)))
-    ∙ ap₂ (λ (x : List Tags) (y : List Spot). with_conjuncts (select_with catalog graph 83 x y ((front ++ []) ++ (sharing_conditions catalog graph 83 (singletons_of path) x y ++ [])) (one_column ∷ [])) more)
+    ∙ ap₂ (λ (x : List Tags) (y : List Spot). with_conjuncts (select_with catalog graph 83 x y
+    ((front ++ []) ++ (sharing_conditions catalog graph 83 (singletons_of path) x y ++ [])) (one_column ∷ [])) more)
     (sym (append-nil other.tags)) (sym (append-nil spots))
     ∙ nothing_besides catalog graph 83 (singletons_of path) (candidate_laid catalog graph apart path other ∷ []) None (one_column ∷ []) more
 
@@ -58,9 +60,11 @@ module _ {A B : Type 0} (f : A → B) (p : A → Bool) (xs : List A) (i : ℕ) (
       ∙ map-append f (filter p (take i xs)) (cond b (x ∷ []) [])
 
   -- one more that passes, and one that does not
-  pub passed_next : (before made new : List B) (y : B) → made ≡ before ++ map f (filter p (take i xs)) → p x ≡ true → y ≡ f x → new ≡ made ++ y ∷ [] → new ≡ before ++ map f (filter p (take (i + 1) xs))
+  pub passed_next : (before made new : List B) (y : B) → made ≡ before ++ map f (filter p (take i xs)) → p x ≡ true → y ≡ f x
+      → new ≡ made ++ y ∷ [] → new ≡ before ++ map f (filter p (take (i + 1) xs))
   passed_next before made new y so_far passes one joined =
-      joined ∙ ap₂ (λ l z. l ++ z ∷ []) so_far one ∙ append_assoc before (map f (filter p (take i xs))) (f x ∷ []) ∙ ap (λ l. before ++ l) (sym (kept_next true passes))
+      joined ∙ ap₂ (λ l z. l ++ z ∷ []) so_far one ∙ append_assoc before (map f (filter p (take i xs))) (f x ∷ [])
+      ∙ ap (λ l. before ++ l) (sym (kept_next true passes))
 
   pub left_next : (before made : List B) → made ≡ before ++ map f (filter p (take i xs)) → p x ≡ false → made ≡ before ++ map f (filter p (take (i + 1) xs))
   left_next before made so_far fails = so_far ∙ ap (λ l. before ++ l) (sym (kept_next false fails ∙ append-nil (map f (filter p (take i xs)))))

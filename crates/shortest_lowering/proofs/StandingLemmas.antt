@@ -44,7 +44,8 @@ read_at d [] i x is h = absurd (omega arith)
 read_at d (y ∷ ys) zero x is h = is
 read_at d (y ∷ ys) (suc i) x is h = read_at d ys i x is (omega arith)
 
-module _ (catalog : Catalog) (graph : Graph) (path : CheckedPath) (other : PathBlock) (ok : IsStanding catalog graph path other) (spots : List Spot) (is : spots ≡ candidate_spots other) where
+module _ (catalog : Catalog) (graph : Graph) (path : CheckedPath) (other : PathBlock) (ok : IsStanding catalog graph path other)
+    (spots : List Spot) (is : spots ≡ candidate_spots other) where
   pub properties_there : (spot : Spot) → IsIn spot spots → HasProperties catalog graph spot
   properties_there spot h =
       has_properties catalog graph ok.valid spot

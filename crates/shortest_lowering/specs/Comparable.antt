@@ -15,19 +15,28 @@ use Rattle.sql_algebra.specs.declared.tree.Conjunct.{Conjunct}
 use Rattle.path_lowering.specs.declared.spots.Kind.TheVariants.{Vertex}
 use Rattle.path_lowering.specs.declared.spots.Spot.{Spot}
 use Rattle.path_lowering.specs.Spots.{element_at, spots_along}
-use Rattle.path_lowering.specs.Blocks.{sources_of}
+use Rattle.path_lowering.specs.Emitted.{SqlCondition, mode_conditions, sharing_conditions}
+use Rattle.path_lowering.specs.Blocks.{alternatives_of, sources_of}
+use Rattle.path_lowering.specs.Apart.{apart}
 use Rattle.path_lowering.specs.Layable.{IsLayable, AreEnds}
 
 -- the places of a candidate: each has an item of its own
 abbrev pub candidate_spots : PathBlock → List Spot
 candidate_spots other = spots_along Vertex other.elements (numbers_below (length other.elements))
 
+-- its conditions: those of its alternatives and of its mode, then those of places of one singleton
+abbrev pub candidate_conditions : Catalog → Graph → ℕ → CheckedPath → PathBlock → List SqlCondition
+candidate_conditions catalog graph prefix path other =
+    let spots = candidate_spots other in
+    (apart (alternatives_of catalog graph prefix path other spots) ++ mode_conditions catalog graph prefix path.mode spots)
+    ++ sharing_conditions catalog graph prefix (singletons_of path) other.tags spots
+
 -- a candidate can be laid along its places, and those of one singleton have one element
 pub record IsStanding (catalog : Catalog) (graph : Graph) (path : CheckedPath) (other : PathBlock) : Type 0 where
   pub valid : IsValidGraph catalog graph
   pub layable : IsLayable graph path other
-  pub alike : (name : List ℕ) (a b : Spot) → IsIn name (singletons_of path) → IsIn a (tagged name other.tags (candidate_spots other)) → IsIn b (tagged name other.tags (candidate_spots other))
-      → element_at graph a ≡ element_at graph b
+  pub alike : (name : List ℕ) (a b : Spot) → IsIn name (singletons_of path)
+      → IsIn a (tagged name other.tags (candidate_spots other)) → IsIn b (tagged name other.tags (candidate_spots other)) → element_at graph a ≡ element_at graph b
   pub sources : (prefix : ℕ) → 1 ≤ length (sources_of catalog graph prefix (candidate_spots other))
 
 -- and its ends can be compared with those of places outside

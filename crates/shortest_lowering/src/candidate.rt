@@ -1,13 +1,10 @@
-ghost use Rattle.std.specs.Prelude.{◌≡◌, ◌<◌, ◌^◌, ◌++◌, ◌∷◌, [], IfOk, length, map, None};
-ghost use Rattle.graph_meaning.specs.Choices.{singletons_of};
+ghost use Rattle.std.specs.Prelude.{◌≡◌, ◌<◌, ◌^◌, ◌++◌, ◌∷◌, [], IfOk, length, map};
 ghost use Rattle.graph_meaning.specs.Lists.{numbers_below as numbers_under};
 ghost use Rattle.sql_algebra.specs.declared.tree.Conjunct.TheVariants.{Plain};
 ghost use Rattle.path_lowering.specs.Apart.{apart};
-ghost use Rattle.path_lowering.specs.Blocks.{alternatives_of};
-ghost use Rattle.path_lowering.specs.Emitted.{mode_conditions, sharing_conditions as conditions_of_sharing};
 ghost use Rattle.path_lowering.specs.Selects.{select_with};
 ghost use Rattle.path_lowering.specs.Shortest.{one_column, candidate_laid, candidate_select as select_of_candidate};
-ghost use Rattle.shortest_lowering.specs.Comparable.{candidate_spots, with_conjuncts, IsStanding, IsPosed};
+ghost use Rattle.shortest_lowering.specs.Comparable.{candidate_spots, candidate_conditions, with_conjuncts, IsStanding, IsPosed};
 
 use expr_tree::Expr;
 use graph_ast::{CheckedPath, Output, PathBlock};
@@ -56,10 +53,7 @@ fn conditions_of(
     requires spots { spots.now ≡ candidate_spots candidate.now }
     requires seats { map (λ p. p.spot) places.now ≡ candidate_spots candidate.now }
     requires tags { map (λ p. p.tags.now) places.now ≡ candidate.now.tags }
-    ensures { IfOk result (λ made. made.items ≡
-        (apart (alternatives_of scene.now.catalog.now scene.now.graph.now scene.now.prefix path.now candidate.now (candidate_spots candidate.now))
-        ++ mode_conditions scene.now.catalog.now scene.now.graph.now scene.now.prefix path.now.mode (candidate_spots candidate.now))
-        ++ conditions_of_sharing scene.now.catalog.now scene.now.graph.now scene.now.prefix (singletons_of path.now) candidate.now.tags (candidate_spots candidate.now)) }
+    ensures { IfOk result (λ made. made.items ≡ candidate_conditions scene.now.catalog.now scene.now.graph.now scene.now.prefix path.now candidate.now) }
 {
     let singletons = add_path_singletons(Vec::new(alloc), path)?;
     let names = singletons.as_slice();
@@ -81,9 +75,7 @@ fn select_along(
     requires standing { IsStanding scene.now.catalog.now scene.now.graph.now path.now candidate.now }
     requires spots { spots.now ≡ candidate_spots candidate.now }
     ensures { IfOk result (λ select. select ≡ select_with scene.now.catalog.now scene.now.graph.now scene.now.prefix candidate.now.tags (candidate_spots candidate.now)
-        ((apart (alternatives_of scene.now.catalog.now scene.now.graph.now scene.now.prefix path.now candidate.now (candidate_spots candidate.now))
-        ++ mode_conditions scene.now.catalog.now scene.now.graph.now scene.now.prefix path.now.mode (candidate_spots candidate.now))
-        ++ conditions_of_sharing scene.now.catalog.now scene.now.graph.now scene.now.prefix (singletons_of path.now) candidate.now.tags (candidate_spots candidate.now)) (one_column ∷ [])) }
+        (candidate_conditions scene.now.catalog.now scene.now.graph.now scene.now.prefix path.now candidate.now) (one_column ∷ [])) }
 {
     let made = add_places(Vec::new(alloc), candidate.tags.as_slice(), spots)?;
     let places = made.as_slice();

@@ -63,7 +63,8 @@ fn selects_of(
 ) -> Result<List<Select>, NoMemory>
     requires letter { scene.now.prefix ≡ 65 }
     requires ready { (block : ABlock) → IsIn block blocks.now → IsReady scene.now.catalog.now scene.now.graph.now 65 query.now block }
-    requires comparable { (block : ABlock) → IsIn block blocks.now → AllZip (IsComparable scene.now.catalog.now scene.now.graph.now candidates.now) query.now.paths block.paths }
+    requires comparable { (block : ABlock) → IsIn block blocks.now
+        → AllZip (IsComparable scene.now.catalog.now scene.now.graph.now candidates.now) query.now.paths block.paths }
     ensures { IfOk result (λ made. made ≡ map (select_of_selected scene.now.catalog.now scene.now.graph.now apart query.now) blocks.now) }
 {
     let mut made = List::new(alloc);

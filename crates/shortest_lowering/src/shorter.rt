@@ -34,7 +34,8 @@ fn add_none_shorter(
 {
     let mut all = conjuncts;
     for block in blocks {
-        if is_candidate(part, block) {
+        let is_shorter = is_candidate(part, block);
+        if is_shorter {
             let select = candidate_select(alloc, scene, path, block, outside)?;
             all.push(Conjunct::NotExists(Boxed::new(alloc, select)?))?;
         }

@@ -1,5 +1,8 @@
 ghost use Rattle.std.specs.Prelude.{◌≡◌, ◌∷◌, ◌≤◌, [], IfOk, length};
-ghost use Rattle.shortest_lowering.specs.SmallQuery.{any_element, column as column_of, edge as edge_of, element as element_of, no_edge as block_of_no_edge, one_edge as block_of_one_edge, read_by as read_by_count, small_blocks as blocks_of_query, small_catalog as catalog_of_query, small_graph as graph_of_query, small_output as output_of_query, small_path as path_of_query, small_path_blocks as path_blocks_of_query, small_query as query_of_test, small_steps as steps_of_query, table as table_of, untagged};
+ghost use Rattle.shortest_lowering.specs.SmallQuery.{any_element, column as column_of, edge as edge_of, element as element_of, table as table_of, untagged};
+ghost use Rattle.shortest_lowering.specs.SmallQuery.{no_edge as block_of_no_edge, one_edge as block_of_one_edge, read_by as read_by_count};
+ghost use Rattle.shortest_lowering.specs.SmallQuery.{small_catalog as catalog_of_query, small_graph as graph_of_query, small_output as output_of_query, small_path as path_of_query};
+ghost use Rattle.shortest_lowering.specs.SmallQuery.{small_blocks as blocks_of_query, small_path_blocks as path_blocks_of_query, small_query as query_of_test, small_steps as steps_of_query};
 
 use crate::lower::lower_selected;
 use expr_tree::Expr;

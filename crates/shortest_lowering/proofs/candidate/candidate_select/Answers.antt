@@ -12,7 +12,8 @@ use Rattle.shortest_lowering.proofs.candidate.candidate_select.Goals as goal
 pub returns : goal.returns
 returns c =
     let ends = c.in_ok-ends.ensures
-    ∙ ap (λ (l : List Spot). ends_across c.args.scene.now.catalog.now c.args.scene.now.graph.now l c.args.outside.now) (c.as_slice-spots.ensures.value ∙ c.in_ok-made.ensures) in
+    ∙ ap (λ (l : List Spot). ends_across c.args.scene.now.catalog.now c.args.scene.now.graph.now l c.args.outside.now)
+    (c.as_slice-spots.ensures.value ∙ c.in_ok-made.ensures) in
     if_ok c.with_conditions.result _ _
     (λ select is. is ∙ ap₂ (λ (s : Select) (l : List SqlCondition). with_conjuncts s (map Plain l)) c.in_ok-select.ensures ends
     ∙ candidate_is c.args.scene.now.catalog.now c.args.scene.now.graph.now c.args.path.now c.args.candidate.now

@@ -17,4 +17,5 @@ path_conditions-requires-clause-there c =
 
 pub sharing_conditions-requires-clause-keys : goal.sharing_conditions-requires-clause-keys
 sharing_conditions-requires-clause-keys c =
-    key_there c.args.scene.now.catalog.now c.args.scene.now.graph.now c.args.path.now c.args.candidate.now c.requires.standing (map (λ (p : Place). p.spot) c.args.places.now) c.requires.seats
+    key_there c.args.scene.now.catalog.now c.args.scene.now.graph.now c.args.path.now c.args.candidate.now c.requires.standing
+    (map (λ (p : Place). p.spot) c.args.places.now) c.requires.seats

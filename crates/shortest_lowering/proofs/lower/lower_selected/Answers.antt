@@ -14,5 +14,6 @@ returns-clause-means c =
     if_ok c.selected_of.result _ _
     (λ sql is. λ instance fits.
     subst (λ (q : SqlQuery). IsSameMultiset (answer c.args.catalog.now c.args.query.now [] [] instance) (bag c.args.catalog.now q instance)) (sym is)
-    (c.selected_law.ensures.answer c.args.catalog.now c.args.query.now instance (fitting c.args.catalog.now c.args.query.now c.requires.served instance fits) c.requires.served.lowerable apart apart_combines))
+    (c.selected_law.ensures.answer c.args.catalog.now c.args.query.now instance
+    (fitting c.args.catalog.now c.args.query.now c.requires.served instance fits) c.requires.served.lowerable apart apart_combines))
     c.selected_of.ensures

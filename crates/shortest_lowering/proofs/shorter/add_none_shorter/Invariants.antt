@@ -7,5 +7,6 @@ use Rattle.shortest_lowering.proofs.shorter.add_none_shorter.Given as goal
 
 abbrev pub invariant-loop-block : goal.invariant-loop-block
 invariant-loop-block l =
-    l.all ≡ l.fn.conjuncts ++ map (λ other. NotExists (candidate_select l.scene.catalog.now l.scene.graph.now (candidate_laid l.scene.catalog.now l.scene.graph.now apart l.path other) l.outside))
+    l.all ≡ l.fn.conjuncts ++ map (λ other. NotExists (candidate_select l.scene.catalog.now l.scene.graph.now
+    (candidate_laid l.scene.catalog.now l.scene.graph.now apart l.path other) l.outside))
     (filter (is_candidate l.part) (take l.block-index l.blocks))
