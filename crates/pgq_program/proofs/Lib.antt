@@ -19,4 +19,3 @@ pub mod Translated
 pub mod SameRows
 pub mod SampleCounts
 pub mod SampledRuns
-pub mod TranslatableQueries

@@ -1,5 +1,5 @@
 -- What is told of the generated run is what `sample` is due.
-use Rattle.std.proofs.Common.{◌≡◌, refl, sym, ap₂, ◌∙◌, ℕ, ◌*◌, ◌≤◌, List, length, map, inl, inr, Result, Ok, Err, arith}
+use Rattle.std.proofs.Common.{◌≡◌, refl, sym, subst, ap₂, ◌∙◌, ℕ, ◌*◌, ◌≤◌, List, length, map, inl, inr, Option, None, Some, IfSome, Result, Ok, Err, arith}
 use Rattle.std.specs.Prelude.{IsErrOf}
 use Rattle.std.proofs.lemmas.List.{length-map}
 use Rattle.std.proofs.lemmas.List.Sorted.{length_permutation}
@@ -15,7 +15,8 @@ use Rattle.pgq_program.specs.declared.halt.Halt.TheVariants as h
 use Rattle.pgq_program.specs.Halts.{halting}
 use Rattle.pgq_program.specs.Queries.{IsQueryRead}
 use Rattle.pgq_program.specs.Running.{answer_due, summary_of, GivesRows}
-use Rattle.pgq_program.specs.Steps.{StepWrites, Halted, IsSampled}
+use Rattle.pgq_program.specs.Commands.{Asked}
+use Rattle.pgq_program.specs.Steps.{StepWrites, Halted, IsSampled, Owes, HaltCause}
 use Rattle.pgq_program.proofs.SameRows.{as_many_different}
 
 pub query_is_short : length sample_query ≤ 1048576
@@ -36,3 +37,12 @@ module _ (n : ℕ) (query : CheckedQuery) (read : Halted (IsQueryRead sample_cat
   refused_rows h.Usage due = absurd due
   refused_rows h.ReadFault due = absurd due
   refused_rows h.NoMemory due = tt
+
+-- no file is read, so it is due whatever the files are, and no count rises
+pub told_if : (asked : Option Asked) (n : ℕ) (files : Option (List (List ℕ × List ℕ))) (r : Result (List ℕ) Halt) → Some (Asked.OfSample n) ≡ asked → StepWrites (IsSampled n) r
+    → IfSome files (λ told. StepWrites (Owes asked told) r)
+told_if asked n None r same due = tt
+told_if asked n (Some told) r same due = subst (λ a. StepWrites (Owes a told) r) same due
+
+pub still : {A : Type 0} (n : ℕ) (r : Result A Halt) → (IsErrOf r h.ReadFault → ⊥) → HaltCause n n r
+still n r calm = record { later = omega arith; read = λ fault. absurd (calm fault); kept = λ read memory. refl }
