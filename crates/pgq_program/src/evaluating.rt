@@ -137,7 +137,11 @@ fn table_by<F: Shelf>(
 }
 
 /// The places of the tables that the words name; Usage where one is unknown or stands twice.
-pub(crate) fn places_of(alloc: Global, catalog: &Catalog, words: &[TableWord]) -> Result<List<u32>, Halt>
+pub(crate) fn places_of(
+    alloc: Global,
+    catalog: &Catalog,
+    words: &[TableWord],
+) -> Result<List<u32>, Halt>
     requires { IsValidCatalog catalog.now }
     ensures told { StepGives (Only (places_or (table_places catalog.now words.now))) result }
     ensures each { IfOk result (λ places. length places ≡ length words.now) }

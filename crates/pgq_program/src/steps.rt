@@ -90,11 +90,7 @@ fn check<F: Shelf>(alloc: Global, files: &mut F, schema: &str) -> Result<List<u8
 }
 
 /// The query that a query text that is not too large stands for in a catalog.
-pub(crate) fn query_in(
-    alloc: Global,
-    catalog: &Catalog,
-    text: &[u8],
-) -> Result<CheckedQuery, Halt>
+pub(crate) fn query_in(alloc: Global, catalog: &Catalog, text: &[u8]) -> Result<CheckedQuery, Halt>
     requires small { length text.now ≤ 1048576 }
     requires valid { IsValidCatalog catalog.now }
     ensures due { StepGives (Halted (IsQueryRead catalog.now text.now)) result }

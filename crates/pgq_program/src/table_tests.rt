@@ -7,7 +7,8 @@ use std::test::Fail;
 
 const PERSON: &str = "id,name,age\n1,Ann,30\n2,Bob,\\N\n3,Cy,20\n";
 
-const KNOWS: &str = "id,a,b,since\n10,1,2,2000\n11,2,3,\\N\n12,3,1,2010\n13,1,1,2005\n14,1,2,2015\n";
+const KNOWS: &str =
+    "id,a,b,since\n10,1,2,2000\n11,2,3,\\N\n12,3,1,2010\n13,1,1,2005\n14,1,2,2015\n";
 
 const BOTH: [&str; 5] = ["run", "schema", "query", "person=p", "KNOWS=k"];
 
@@ -47,7 +48,11 @@ fn answered(
     let mut out = MemorySink::new(alloc, 100_000, List::new(alloc), 4096)?;
     let mut err = MemorySink::new(alloc, 1_000, List::new(alloc), 4096)?;
     let status = pgq(alloc, list.as_slice(), &mut shelf, &mut out, &mut err);
-    Ok((status, bytes(alloc, out.received())?, bytes(alloc, err.received())?))
+    Ok((
+        status,
+        bytes(alloc, out.received())?,
+        bytes(alloc, err.received())?,
+    ))
 }
 
 fn answers(

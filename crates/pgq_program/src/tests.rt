@@ -265,7 +265,11 @@ fn translates(rt: HostRuntime) -> Result<(), Fail> {
 static REFUSALS: [(&str, &str, &str); 24] = [
     ("", QUERY, "schema:0-0: 201 unexpected\n"),
     // The schema comes first, and of a text its bytes, its form and its rules.
-    ("CREATE TABLE \"\" (a", QUERY, "schema:13-15: 104 bad name\n"),
+    (
+        "CREATE TABLE \"\" (a",
+        QUERY,
+        "schema:13-15: 104 bad name\n",
+    ),
     ("x", "SELECT @", "schema:0-1: 201 unexpected\n"),
     (
         "CREATE TABLE t (#",

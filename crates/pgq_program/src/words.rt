@@ -78,11 +78,7 @@ fn evaluation<'a>(
     }
 }
 
-fn of_one<'a>(
-    alloc: Global,
-    command: &str,
-    word: &'a str,
-) -> Result<Option<Command<'a>>, NoMemory>
+fn of_one<'a>(alloc: Global, command: &str, word: &'a str) -> Result<Option<Command<'a>>, NoMemory>
     ensures { IfOk result (λ asked. option_map view asked ≡ of_one command.now word.now) }
 {
     if command == "check" {
