@@ -104,7 +104,7 @@ def items(count):
 
 def growth(program, home, scale, faults):
     """From n to 16n: the columns of a query, and the rows of a table."""
-    sizes = [size // scale for size in (1_000, 4_000, 16_000)]
+    sizes = [size // scale for size in (600, 2_400, 9_600)]
     for command in ("check", "translate"):
         times = []
         for size in sizes:
