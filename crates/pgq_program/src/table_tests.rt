@@ -22,11 +22,13 @@ fn done(text: &str) -> Wanted<'_> {
     }
 }
 
-const ASKED_WRONGLY: Wanted<'static> = Wanted {
-    status: Status::Usage,
-    out: b"",
-    err: USAGE.as_bytes(),
-};
+fn asked_wrongly() -> Wanted<'static> {
+    Wanted {
+        status: Status::Usage,
+        out: b"",
+        err: USAGE.as_bytes(),
+    }
+}
 
 // What the words receive on the two sinks over these files, and the status.
 fn answered(
@@ -221,9 +223,9 @@ fn asks_for_tables(rt: HostRuntime) -> Result<(), Fail> {
     let (pattern, _) = &RUNS[0];
     runs(&rt, alloc, &NONE, pattern, done("X,Y\n"))?;
     let unknown = ["run", "schema", "query", "nobody=p"];
-    runs(&rt, alloc, &unknown, "@", ASKED_WRONGLY)?;
+    runs(&rt, alloc, &unknown, "@", asked_wrongly())?;
     let twice = ["run", "schema", "query", "person=p", "\"PERSON\"=p"];
-    runs(&rt, alloc, &twice, "@", ASKED_WRONGLY)?;
+    runs(&rt, alloc, &twice, "@", asked_wrongly())?;
     Ok(())
 }
 
