@@ -14,7 +14,8 @@ pub day_of_text : (text : List ℕ) (number : ℤ) → IsDateText text number �
 day_of_text text number h =
     let year : number_value (take 4 text) ≡ h.year = ap (λ l. number_value (take 4 l)) h.written ∙ four_value h.year h.civil.year_in.1 in
     let month : number_value (take 2 (drop 5 text)) ≡ h.month = ap (λ l. number_value (take 2 (drop 5 l))) h.written ∙ two_value h.month (omega (arith, h.civil.month_in.1)) in
-    let day : number_value (drop 8 text) ≡ h.day = ap (λ l. number_value (drop 8 l)) h.written ∙ two_value h.day (omega (arith, h.civil.day_in.1, days_in_month_bounds (pos h.year) h.month)) in
+    let day : number_value (drop 8 text) ≡ h.day = ap (λ l. number_value (drop 8 l)) h.written
+    ∙ two_value h.day (omega (arith, h.civil.day_in.1, days_in_month_bounds (pos h.year) h.month)) in
     ap (λ y. days_from_civil (pos y) (number_value (take 2 (drop 5 text))) (number_value (drop 8 text))) year
     ∙ ap (λ m. days_from_civil (pos h.year) m (number_value (drop 8 text))) month ∙ ap (λ d. days_from_civil (pos h.year) h.month d) day ∙ sym h.counted
 

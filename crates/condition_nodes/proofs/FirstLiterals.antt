@@ -38,23 +38,29 @@ module _ {L : Type 0} where
   abbrev pub valued : Value → Span → Spanned L
   valued v span = literal span v
 
-  pub plain_first : (ts : List Token) (x : Token) → Some x ≡ slice_get ts 0 → one_p (on class is_numeral) (λ t. literal {L = L} t.span (literal_of false t.kind)) ts ≡ chosen valued (plain_value x.kind) x.span ts
+  pub plain_first : (ts : List Token) (x : Token) → Some x ≡ slice_get ts 0 → one_p (on class is_numeral) (λ t. literal {L = L} t.span (literal_of false t.kind)) ts
+      ≡ chosen valued (plain_value x.kind) x.span ts
   unfolding class mark
-  plain_first ts x h = by_kind valued is_numeral (λ t. literal {L = L} t.span (literal_of false t.kind)) ts x (plain_value x.kind) h (plain_test x.kind) (made_of (literal_of false x.kind) valued x.span (plain_value x.kind) (λ v. v) (plain_means x.kind))
+  plain_first ts x h = by_kind valued is_numeral (λ t. literal {L = L} t.span (literal_of false t.kind)) ts x (plain_value x.kind) h (plain_test x.kind)
+      (made_of (literal_of false x.kind) valued x.span (plain_value x.kind) (λ v. v) (plain_means x.kind))
 
   abbrev pub texted : List ℕ → Span → Spanned L
   texted t span = literal span (Text t)
 
-  pub text_first : (ts : List Token) (x : Token) → Some x ≡ slice_get ts 0 → one_p (on class is_text) (λ t. literal {L = L} t.span (Text (text_in t.kind))) ts ≡ chosen texted (literal_text x.kind) x.span ts
+  pub text_first : (ts : List Token) (x : Token) → Some x ≡ slice_get ts 0 → one_p (on class is_text) (λ t. literal {L = L} t.span (Text (text_in t.kind))) ts
+      ≡ chosen texted (literal_text x.kind) x.span ts
   unfolding class mark
-  text_first ts x h = by_kind texted is_text (λ t. literal {L = L} t.span (Text (text_in t.kind))) ts x (literal_text x.kind) h (text_test x.kind) (made_of (text_in x.kind) texted x.span (literal_text x.kind) (λ t. t) (text_means x.kind))
+  text_first ts x h = by_kind texted is_text (λ t. literal {L = L} t.span (Text (text_in t.kind))) ts x (literal_text x.kind) h (text_test x.kind)
+      (made_of (text_in x.kind) texted x.span (literal_text x.kind) (λ t. t) (text_means x.kind))
 
   abbrev pub dated_from : Span → Value → Span → Spanned L
   dated_from word v span = literal (reach word span) v
 
-  pub date_first : (word : Span) (ts : List Token) (x : Token) → Some x ≡ slice_get ts 0 → one_p (on class is_date_literal) (λ t. literal {L = L} (reach word t.span) (date_value (text_in t.kind))) ts ≡ chosen (dated_from word) (literal_date x.kind) x.span ts
+  pub date_first : (word : Span) (ts : List Token) (x : Token) → Some x ≡ slice_get ts 0
+      → one_p (on class is_date_literal) (λ t. literal {L = L} (reach word t.span) (date_value (text_in t.kind))) ts ≡ chosen (dated_from word) (literal_date x.kind) x.span ts
   unfolding class mark
-  date_first word ts x h = by_kind (dated_from word) is_date_literal (λ t. literal {L = L} (reach word t.span) (date_value (text_in t.kind))) ts x (literal_date x.kind) h (date_test x.kind) (made_of (date_value (text_in x.kind)) (dated_from word) x.span (literal_date x.kind) (λ v. v) (date_means x.kind))
+  date_first word ts x h = by_kind (dated_from word) is_date_literal (λ t. literal {L = L} (reach word t.span) (date_value (text_in t.kind))) ts x (literal_date x.kind) h
+      (date_test x.kind) (made_of (date_value (text_in x.kind)) (dated_from word) x.span (literal_date x.kind) (λ v. v) (date_means x.kind))
 
 one_mapped : {V : Type 0} (f : Token → Bool) (v : Token → V) (ts : List Token) → mapped_p v (one_p f the_token) ts ≡ one_p f v ts
 one_mapped f v [] = refl
@@ -67,7 +73,9 @@ one_mapped f v (x ∷ xs) = at (f x)
 abbrev pub paired : Value → Span → Value × Span
 paired v span = (v, span)
 
-pub negated_first : (ts : List Token) (x : Token) → Some x ≡ slice_get ts 0 → mapped_p (λ t. (literal_of true t.kind, t.span)) (one_p (on class is_negatable) the_token) ts ≡ chosen paired (negated_value x.kind) x.span ts
+pub negated_first : (ts : List Token) (x : Token) → Some x ≡ slice_get ts 0 → mapped_p (λ t. (literal_of true t.kind, t.span)) (one_p (on class is_negatable) the_token) ts
+    ≡ chosen paired (negated_value x.kind) x.span ts
 unfolding class mark
 negated_first ts x h = one_mapped (on class is_negatable) (λ t. (literal_of true t.kind, t.span)) ts
-    ∙ by_kind paired is_negatable (λ t. (literal_of true t.kind, t.span)) ts x (negated_value x.kind) h (negated_test x.kind) (made_of (literal_of true x.kind) paired x.span (negated_value x.kind) (λ v. v) (negated_means x.kind))
+    ∙ by_kind paired is_negatable (λ t. (literal_of true t.kind, t.span)) ts x (negated_value x.kind) h (negated_test x.kind)
+    (made_of (literal_of true x.kind) paired x.span (negated_value x.kind) (λ v. v) (negated_means x.kind))

@@ -169,9 +169,11 @@ module _ {L : Type 0} where
       pub whole_one : (ts r : List T) (c : Spanned L) → P ts ≡ got c r → heads f r ≡ false → joined_p ts ≡ got c r
       whole_one ts r c e n = seq-first P more_p node_p ts r c e ∙ joined_one r c n
 
-      pub whole_all : (ts r l : List T) (c : Spanned L) (o g : Gathered L) → P ts ≡ got c r → heads f r ≡ true → o ≡ first_of c → gathers_p o r ≡ got g l → joined_p ts ≡ got (over g) l
+      pub whole_all : (ts r l : List T) (c : Spanned L) (o g : Gathered L) → P ts ≡ got c r → heads f r ≡ true → o ≡ first_of c → gathers_p o r ≡ got g l → joined_p ts
+          ≡ got (over g) l
       whole_all ts r l c o g e n u h = seq-first P more_p node_p ts r c e ∙ joined_all r l c o g n u h
 
-      pub whole_halt : (ts r l : List T) (c : Spanned L) (o : Gathered L) → P ts ≡ got c r → o ≡ first_of c → (x : Stop Cause) → Parses (gathers_p o r) (Err x) l → Parses (joined_p ts) (Err x) l
+      pub whole_halt : (ts r l : List T) (c : Spanned L) (o : Gathered L) → P ts ≡ got c r → o ≡ first_of c → (x : Stop Cause) → Parses (gathers_p o r) (Err x) l
+          → Parses (joined_p ts) (Err x) l
       whole_halt ts r l c o e u (Refused x) h = seq-first P more_p node_p ts r c e ∙ joined_halt r l c o u (Refused x) h
       whole_halt ts r l c o e u NoMemory h = tt

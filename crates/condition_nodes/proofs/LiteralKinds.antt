@@ -1,5 +1,6 @@
 -- Which kinds of tokens are literals.
-use Rattle.std.proofs.Common.{◌≡◌, refl, sym, ap, ◌∙◌, ℕ, ℤ, zero, suc, ◌^◌, Bool, true, false, not, ◌||◌, ◌==◌, nat_lt, nat_le, cond, Option, None, Some, List, [], ◌∷◌, map, get_or, bytes_eq, is_some, IfSome, arith}
+use Rattle.std.proofs.Common.{◌≡◌, refl, sym, ap, ◌∙◌, ℕ, ℤ, zero, suc, ◌^◌, Bool, true, false, not, ◌||◌, ◌==◌, nat_lt, nat_le, cond, Option, None, Some, List, [], ◌∷◌, map}
+use Rattle.std.proofs.Common.{get_or, bytes_eq, is_some, IfSome, arith}
 use Rattle.std.specs.List.{list_all, position}
 use Rattle.std.proofs.lemmas.Bool.Decides.{nat_tests}
 use Rattle.pgq_base.specs.declared.value.Value.{Value}
@@ -84,7 +85,8 @@ pub negated_test : (kind : Kind) → is_negatable (number_of (kind_mark kind)) �
 negated_test (k.Word w) = no_word is_negatable refl refl refl w
 negated_test (k.Delimited w) = refl
 negated_test (k.Reserved n) = fails_at is_negatable refl reserved_marks refl n
-negated_test (k.Number n) = limited (nat_lt n (2 ^ 63)) (n == 2 ^ 63) (literal_of true (k.Number n)) ∙ ap (λ b. is_some (cond b (Some (literal_of true (k.Number n))) None)) (sym (up_to n (2 ^ 63)))
+negated_test (k.Number n) = limited (nat_lt n (2 ^ 63)) (n == 2 ^ 63) (literal_of true (k.Number n)) ∙ ap (λ b. is_some (cond b (Some (literal_of true (k.Number n))) None))
+    (sym (up_to n (2 ^ 63)))
 negated_test (k.Decimal size) = refl
 negated_test (k.Literal t) = neither (is_date_text t) is_negatable refl refl
 negated_test (k.Symbol n) = fails_at is_negatable refl symbol_marks refl n

@@ -9,9 +9,9 @@ use Rattle.pgq_base.specs.declared.rows.Row.{Row}
 use Rattle.pgq_base.specs.declared.value.Value.{Value}
 use Rattle.pgq_base.specs.Instances.{RowValues, TableRows, same_values, values_at}
 use Rattle.graph_ast.specs.Fits.{has_null}
-use Rattle.std.specs.BTreeSet.{BTreeSet}
+use Rattle.std.specs.HashSet.{HashSet}
 use Rattle.csv_tables.specs.declared.keys.KeyOf.{KeyOf}
-use Rattle.csv_tables.specs.KeyOrder.{holds}
+use Rattle.csv_tables.specs.KeyHashes.{holds}
 use Rattle.pgq_base.specs.declared.code.Code.TheVariants.{RepeatedKey, BrokenReference}
 use Rattle.std.proofs.Common.{nat_lt, length-append, append_assoc}
 use Rattle.std.proofs.lemmas.List.{map-append}
@@ -79,12 +79,12 @@ values_more columns rows i row values h e =
     sym (ap (list_any has) (before_more rows i row h e) ∙ (list_any-append has (before rows i) (row.values ∷ []) ∙ or_last (list_any has (before rows i)) (has row.values)))
 
 -- a row repeats the values of an earlier one where the set of the keys so far holds them
-pub repeats_so : (columns : List ℕ) (seen : BTreeSet KeyOf) (rows : List Row) (i : ℕ) (row : RowValues)
+pub repeats_so : {S : Type 0} (columns : List ℕ) (seen : HashSet KeyOf S) (rows : List Row) (i : ℕ) (row : RowValues)
     → ((values : List Value) → holds seen values ≡ has_values columns (before rows i) values)
     → (not (has_null (values_at columns row)) && holds seen (values_at columns row)) ≡ repeats columns (before rows i) row
 repeats_so columns seen rows i row held = ap (λ b. not (has_null (values_at columns row)) && b) (held (values_at columns row))
 
-pub dangles_so : (columns places : List ℕ) (targets : BTreeSet KeyOf) (target earlier : TableRows) (row : RowValues)
+pub dangles_so : {S : Type 0} (columns places : List ℕ) (targets : HashSet KeyOf S) (target earlier : TableRows) (row : RowValues)
     → ((values : List Value) → holds targets values ≡ has_values places target values)
     → (not (has_null (values_at columns row)) && not (holds targets (values_at columns row))) ≡ dangles columns places target earlier row
 dangles_so columns places targets target earlier row held = ap (λ b. not (has_null (values_at columns row)) && not b) (held (values_at columns row))

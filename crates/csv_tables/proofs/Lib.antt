@@ -5,9 +5,11 @@ pub mod CollectLemmas
 pub mod HeaderLemmas
 pub mod ReadingLemmas
 pub mod SortLemmas
+pub mod RankLemmas
 pub mod WriterLemmas
 pub mod KeyLemmas
 pub mod CheckingLemmas
+pub mod AscendingLemmas
 pub mod WithinLemmas
 pub mod TypedLemmas
 pub mod FitLemmas

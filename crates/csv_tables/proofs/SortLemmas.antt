@@ -9,7 +9,7 @@ use Rattle.multisets.proofs.Ranks.{sorted_equal}
 use Rattle.pgq_base.proofs.ValueOrder.{exact_value, exact_list, value_itself}
 use Rattle.pgq_base.specs.Instances.{RowValues, TableRows}
 use Rattle.pgq_base.specs.Values.{value_order}
-use Rattle.csv_tables.specs.KeyOrder.{row_total}
+use Rattle.csv_tables.specs.KeyHashes.{row_total}
 use Rattle.csv_tables.specs.Writing.{ascending, inserted, row_order}
 
 pub exact_row : (a b : RowValues) → row_order a b ≡ Equal → a ≡ b

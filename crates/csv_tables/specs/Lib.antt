@@ -1,7 +1,8 @@
 pub mod Constraints
 pub mod Fields
-pub mod KeyOrder
+pub mod KeyHashes
 pub mod Outcomes
+pub mod Ranks
 pub mod Reading
 pub mod Records
 pub mod Steps

@@ -6,8 +6,13 @@ use Rattle.csv.specs.Writing.{default_writer, fields_written, has_written, text_
 use Rattle.csv.specs.declared.reader.Reader.{Reader}
 use Rattle.csv.specs.declared.reader.Trim.TheVariants as trim
 use Rattle.csv.specs.declared.writer.Writer.{Writer}
-use Rattle.pgq_base.specs.Instances.{RowValues, TableRows}
+use Rattle.pgq_base.specs.declared.value.Value.{Value}
+use Rattle.pgq_base.specs.Instances.{RowValues, TableRows, InstanceRows, rows_at}
+use Rattle.graph_ast.specs.declared.catalog.Reference.{Reference}
+use Rattle.csv_tables.specs.declared.checking.TargetKeys.{TargetKeys}
 use Rattle.csv_tables.specs.declared.faults.TableFault.{TableFault}
+use Rattle.csv_tables.specs.Constraints.{has_values}
+use Rattle.csv_tables.specs.KeyHashes.{holds}
 use Rattle.csv_tables.specs.Records.{Field}
 
 -- the reader stands between two records and has these ones left. `remaining` tells what the source underneath has left
@@ -44,3 +49,12 @@ abbrev pub earlier_of : Option TableFault → Option TableFault → Option Table
 earlier_of None other = other
 earlier_of (Some fault) None = Some fault
 earlier_of (Some fault) (Some other) = if nat_lt other.row fault.row then Some other else Some fault
+
+-- the set has the values of the table's rows in the columns, and no others
+abbrev pub AreKeysIn : InstanceRows → TargetKeys → Type 0
+AreKeysIn instance targets = (values : List Value) → holds targets.keys values ≡ has_values targets.columns.now (rows_at instance targets.table) values
+
+-- the table and the columns are those that the reference has for targets
+pub record IsFor (reference : Reference) (targets : TargetKeys) : Type 0 where
+  pub table : targets.table ≡ reference.table
+  pub columns : targets.columns.now ≡ reference.targets

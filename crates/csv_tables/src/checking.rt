@@ -1,20 +1,23 @@
-ghost use Rattle.std.specs.Prelude.{◌≡◌, ◌||◌, ◌&&◌, not, ◌+◌, ◌++◌, [], List as Sequence, ℕ, All, IfOk, OnOk, map, option_map, slice_index};
+ghost use Rattle.std.specs.Prelude.{◌≡◌, ◌||◌, ◌&&◌, not, ◌+◌, ◌++◌, [], List as Sequence, ℕ, All, IfOk, IfSome, IsTrue, None, OnOk, Some, map, option_map, slice_index};
 ghost use Rattle.pgq_base.specs.declared.value.Value.{Value as Content};
 ghost use Rattle.pgq_base.specs.Instances.{TableRows, rows_at, same_values, values_at};
 ghost use Rattle.pgq_base.specs.Values.{owned};
 ghost use Rattle.pgq_base.specs.Answers.{Gives};
 ghost use Rattle.graph_ast.specs.Fits.{has_null, is_null};
 ghost use Rattle.csv_tables.specs.Constraints.{Constraint, HasNumbers, IsNumbered, constraints_of, dangles, has_values, instance_refusal, instance_rows, key_constraint, reference_constraint, repeats, rows_fault, verdict};
-ghost use Rattle.csv_tables.specs.Steps.{earlier_of, first_break};
-ghost use Rattle.csv_tables.specs.KeyOrder.{holds, values_in};
+ghost use Rattle.csv_tables.specs.Steps.{AreKeysIn, IsFor, earlier_of, first_break};
+ghost use Rattle.csv_tables.specs.KeyHashes.{holds, values_in};
 ghost use Rattle.csv_tables.specs.Outcomes.{values_of};
+ghost use Rattle.csv_tables.specs.Writing.{row_order};
+ghost use Rattle.std.specs.declared.cmp.Ordering.TheVariants.{Less};
 
 use crate::faults::{TableFault, refuse};
-use crate::keys::{KeyOf, value_at};
+use crate::keys::{KeyOf, compare, value_at};
 use graph_ast::{Catalog, Key, Reference, Table};
 use pgq_base::{Code, Instance, NoMemory, Row, Stop, ValueRef};
 use std::alloc::Global;
-use std::collections::BTreeSet;
+use std::cmp::Ordering;
+use std::collections::HashSet;
 
 fn is_null(value: ValueRef<'_>) -> bool
     ensures { result ≡ is_null (owned value.entry) }
@@ -37,7 +40,7 @@ fn has_null(key: KeyOf<'_>) -> bool
 }
 
 // Puts a key into the set, and whether one with its values was there.
-fn add<'a>(set: &mut BTreeSet<KeyOf<'a>>, key: KeyOf<'a>) -> Result<bool, NoMemory>
+fn add<'a>(set: &mut HashSet<KeyOf<'a>>, key: KeyOf<'a>) -> Result<bool, NoMemory>
     ensures there { IfOk result (λ there. there ≡ holds set.old (values_in key.entry)) }
     ensures grown { OnOk result ((values : Sequence Content) → holds set.new values ≡ (same_values values (values_in key.entry) || holds set.old values)) }
 {
@@ -50,10 +53,10 @@ fn keys_of<'a>(
     alloc: Global,
     rows: &'a [Row],
     columns: &'a [u32],
-) -> Result<BTreeSet<KeyOf<'a>>, NoMemory>
+) -> Result<HashSet<KeyOf<'a>>, NoMemory>
     ensures { IfOk result (λ set. (values : Sequence Content) → holds set values ≡ has_values columns.now (map values_of rows.now) values) }
 {
-    let mut keys = BTreeSet::new(alloc);
+    let mut keys = HashSet::with_capacity(alloc, rows.len())?;
     for row in rows {
         let key = KeyOf {
             row: row.values.as_slice(),
@@ -65,7 +68,7 @@ fn keys_of<'a>(
 }
 
 // Puts a key into the set, and whether it is without Null and one with its values was there.
-fn repeats<'a>(seen: &mut BTreeSet<KeyOf<'a>>, key: KeyOf<'a>) -> Result<bool, NoMemory>
+fn repeats<'a>(seen: &mut HashSet<KeyOf<'a>>, key: KeyOf<'a>) -> Result<bool, NoMemory>
     ensures test { IfOk result (λ test. test ≡ (not (has_null (values_in key.entry)) && holds seen.old (values_in key.entry))) }
     ensures grown { OnOk result ((values : Sequence Content) → holds seen.new values ≡ (same_values values (values_in key.entry) || holds seen.old values)) }
 {
@@ -73,17 +76,48 @@ fn repeats<'a>(seen: &mut BTreeSet<KeyOf<'a>>, key: KeyOf<'a>) -> Result<bool, N
     Ok(!has_null(key) && there)
 }
 
-fn dangles<'a>(targets: &BTreeSet<KeyOf<'a>>, key: KeyOf<'a>) -> bool
+fn dangles<'a>(targets: &HashSet<KeyOf<'a>>, key: KeyOf<'a>) -> bool
     ensures { result ≡ (not (has_null (values_in key.entry)) && not (holds targets.now (values_in key.entry))) }
 {
     !has_null(key) && !targets.contains(&key)
+}
+
+// Whether a key stands above the last one, if there is one.
+fn is_next(last: Option<KeyOf<'_>>, key: &KeyOf<'_>) -> bool
+    ensures { IsTrue result → IfSome last.entry (λ last. row_order (values_in last) (values_in key.now) ≡ Less) }
+{
+    match last {
+        Some(last) => compare(&last, key) == Ordering::Less,
+        None => true,
+    }
+}
+
+// Whether the keys of the rows ascend, as they mostly do in a file, so that none repeats.
+fn are_ascending(rows: &[Row], columns: &[u32]) -> bool
+    ensures { IsTrue result → first_break (repeats columns.now) [] (map values_of rows.now) ≡ None }
+{
+    let mut last = None;
+    for row in rows {
+        let key = KeyOf {
+            row: row.values.as_slice(),
+            columns,
+        };
+        if !is_next(last, &key) {
+            return false;
+        }
+        last = Some(key);
+    }
+    true
 }
 
 // The number of the first row that has the values of an earlier one in the columns, none of them Null.
 fn first_repeat(alloc: Global, rows: &[Row], columns: &[u32]) -> Result<Option<u64>, NoMemory>
     ensures { IfOk result (λ number. number ≡ first_break (repeats columns.now) [] (map values_of rows.now)) }
 {
-    let mut seen = BTreeSet::new(alloc);
+    if are_ascending(rows, columns) {
+        return Ok(None);
+    }
+    let mut seen = HashSet::with_capacity(alloc, rows.len())?;
     for i in 0..rows.len() {
         let row = rows[i].values.as_slice();
         if repeats(&mut seen, KeyOf { row, columns })? {
@@ -97,7 +131,7 @@ fn first_repeat(alloc: Global, rows: &[Row], columns: &[u32]) -> Result<Option<u
 fn first_dangling<'a>(
     rows: &'a [Row],
     columns: &'a [u32],
-    targets: &BTreeSet<KeyOf<'a>>,
+    targets: &HashSet<KeyOf<'a>>,
 ) -> Option<u64>
     ensures { (places : Sequence ℕ) (target : TableRows) → ((values : Sequence Content) → holds targets.now values ≡ has_values places target values)
         → result ≡ first_break (dangles columns.now places target) [] (map values_of rows.now) }
@@ -170,6 +204,55 @@ fn keys_fault(alloc: Global, keys: &[Key], rows: &[Row]) -> Result<Option<TableF
     Ok(first)
 }
 
+// The keys of a table's rows in some columns. References often come in pairs with the same ones, as the two
+// ends of an edge table do, so that the set serves both.
+#[derive(Drop)]
+struct TargetKeys<'a> {
+    table: u32,
+    columns: &'a [u32],
+    keys: HashSet<KeyOf<'a>>,
+}
+
+fn is_for(targets: &TargetKeys<'_>, reference: &Reference) -> bool
+    ensures { IsTrue result → IsFor reference.now targets.now }
+{
+    targets.table == reference.table && targets.columns == reference.targets.as_slice()
+}
+
+// The last keys, where they are those for the reference. Else they are dropped.
+fn kept_for<'a>(last: Option<TargetKeys<'a>>, reference: &Reference) -> Option<TargetKeys<'a>>
+    ensures last { IfSome result (λ targets. last.entry ≡ Some targets) }
+    ensures met { IfSome result (λ targets. IsFor reference.now targets) }
+{
+    match last {
+        Some(targets) if is_for(&targets, reference) => Some(targets),
+        _ => None,
+    }
+}
+
+// The keys that the reference has for targets, which are the last ones or new ones.
+fn targets_of<'a>(
+    alloc: Global,
+    instance: &'a Instance,
+    reference: &'a Reference,
+    last: Option<TargetKeys<'a>>,
+) -> Result<TargetKeys<'a>, NoMemory>
+    requires { IfSome last (AreKeysIn (instance_rows instance.now)) }
+    ensures keys { IfOk result (AreKeysIn (instance_rows instance.now)) }
+    ensures met { IfOk result (IsFor reference.now) }
+{
+    if let Some(targets) = kept_for(last, reference) {
+        return Ok(targets);
+    }
+    let columns = reference.targets.as_slice();
+    let rows = rows_at(instance, reference.table as usize);
+    Ok(TargetKeys {
+        table: reference.table,
+        columns,
+        keys: keys_of(alloc, rows, columns)?,
+    })
+}
+
 // The first fault of the references, or of the constraints before them, which have the fault `before`.
 fn references_fault(
     alloc: Global,
@@ -183,12 +266,13 @@ fn references_fault(
         → IfOk result (λ fault. fault ≡ rows_fault (others ++ map (reference_constraint (instance_rows instance.now)) references.now) [] (map values_of rows.now)) }
 {
     let mut first = before;
+    let mut last = None;
     for reference in references {
+        let targets = targets_of(alloc, instance, reference, last)?;
         let columns = reference.columns.as_slice();
-        let target = rows_at(instance, reference.table as usize);
-        let targets = keys_of(alloc, target, reference.targets.as_slice())?;
-        let number = first_dangling(rows, columns, &targets);
+        let number = first_dangling(rows, columns, &targets.keys);
         first = earlier_of(first, fault_at(number, Code::BrokenReference, columns));
+        last = Some(targets);
     }
     Ok(first)
 }

@@ -1,15 +1,14 @@
-ghost use Rattle.std.specs.Prelude.{◌≡◌, ◌||◌, List as Sequence, refl, IfOk, OnOk, slice_index_or};
-ghost use Rattle.std.specs.Cmp.{partial_equiv_from_equiv, partial_order_from_agreeing_total};
-ghost use Rattle.std.specs.Ordering.{as_partial_cmp, eq_by_cmp};
+ghost use Rattle.std.specs.Prelude.{◌≡◌, ◌||◌, List as Sequence, refl, IfOk, OnOk, fold, slice_index_or};
+ghost use Rattle.std.specs.Cmp.{partial_equiv_from_equiv};
 ghost use Rattle.pgq_base.specs.declared.value.Value.{Value as Content};
 ghost use Rattle.pgq_base.specs.Values.{owned, value_order};
-ghost use Rattle.pgq_base.specs.Instances.{same_values, value_at};
-ghost use Rattle.csv_tables.specs.KeyOrder.{holds, key_equivalence, key_order, key_total, values_in};
-ghost use Rattle.graph_ast.specs.Fits.{has_null, is_null};
+ghost use Rattle.pgq_base.specs.Instances.{value_at};
+ghost use Rattle.csv_tables.specs.Writing.{row_order};
+ghost use Rattle.csv_tables.specs.KeyHashes.{key_alike, key_equal, key_equivalence, key_writes, values_in, writes};
 
-use pgq_base::{NoMemory, Value, ValueRef, compare_sizes};
+use pgq_base::{Value, ValueRef, compare_sizes};
 use std::cmp::Ordering;
-use std::collections::BTreeSet;
+use std::hash::{Hash, Hasher};
 
 /// The values of a row in some columns, as they stand in a set. A place past the row's end holds Null.
 #[derive(Clone, Copy, Debug)]
@@ -53,8 +52,9 @@ fn order_of(a: ValueRef<'_>, b: ValueRef<'_>) -> Ordering
     }
 }
 
-fn compare(a: &KeyOf<'_>, b: &KeyOf<'_>) -> Ordering
-    ensures { result ≡ key_order a.now b.now }
+/// The order of two keys: value by value.
+pub fn compare(a: &KeyOf<'_>, b: &KeyOf<'_>) -> Ordering
+    ensures { result ≡ row_order (values_in a.now) (values_in b.now) }
 {
     for i in 0..a.columns.len() {
         if i >= b.columns.len() {
@@ -72,8 +72,33 @@ fn compare(a: &KeyOf<'_>, b: &KeyOf<'_>) -> Ordering
     }
 }
 
+// Feeds a value to a hasher. Null feeds nothing.
+fn feed<H: Hasher>(value: ValueRef<'_>, hasher: &mut H)
+    ensures { hasher.new ≡ fold H.write hasher.old (writes (owned value.entry)) }
+{
+    match value {
+        ValueRef::Null => {}
+        ValueRef::Truth(truth) => truth.hash(hasher),
+        ValueRef::Number(number) => number.hash(hasher),
+        ValueRef::Decimal(decimal) => {
+            decimal.unscaled.hash(hasher);
+            decimal.scale.hash(hasher);
+        }
+        ValueRef::Date(date) => date.day.hash(hasher),
+        ValueRef::Text(text) => hasher.write(text.as_bytes()),
+    }
+}
+
+fn feed_values<H: Hasher>(key: &KeyOf<'_>, hasher: &mut H)
+    ensures { hasher.new ≡ fold H.write hasher.old (key_writes key.now) }
+{
+    for place in key.columns {
+        feed(value_at(key.row, *place), hasher);
+    }
+}
+
 impl PartialEq for KeyOf<'_> {
-    ghost eq = { eq_by_cmp key_order };
+    ghost eq = { key_equal };
 
     ghost laws = { partial_equiv_from_equiv key_equivalence };
 
@@ -86,26 +111,12 @@ impl Eq for KeyOf<'_> {
     ghost laws = { key_equivalence };
 }
 
-impl PartialOrd for KeyOf<'_> {
-    ghost partial_cmp = { as_partial_cmp key_order };
+impl Hash for KeyOf<'_> {
+    ghost hash_input = { key_writes };
 
-    ghost laws = { partial_order_from_agreeing_total key_order key_total (λ a b. refl) (λ a b. refl) };
+    ghost respects_eq = { key_alike };
 
-    fn partial_cmp(&self, other: &KeyOf<'_>) -> Option<Ordering> {
-        Some(compare(self, other))
-    }
-}
-
-impl Ord for KeyOf<'_> {
-    ghost cmp = { key_order };
-
-    ghost total = { key_total };
-
-    ghost matches_partial_cmp = { λ a b. refl };
-
-    ghost matches_eq = { λ a b. refl };
-
-    fn cmp(&self, other: &KeyOf<'_>) -> Ordering {
-        compare(self, other)
+    fn hash<H: Hasher>(&self, state: &mut H) {
+        feed_values(self, state);
     }
 }

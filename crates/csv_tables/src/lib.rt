@@ -10,12 +10,10 @@ mod laws;
 mod numbers;
 mod reading;
 mod records;
+mod sorting;
 mod writing;
 
 pub use checking::check_instance;
 pub use laws::{checked_instances_fit, read_rows_are_typed, types_tell, valid_catalogs_number};
 pub use reading::read_table;
 pub use writing::{one_table_text, write_rows};
-
-#[cfg(test)]
-mod tests;

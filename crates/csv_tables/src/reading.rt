@@ -1,4 +1,4 @@
-ghost use Rattle.std.specs.Prelude.{◌≡◌, ◌<◌, ◌^◌, ℕ, List as Sequence, length, slice_index_or, []};
+ghost use Rattle.std.specs.Prelude.{◌≡◌, ◌<◌, ◌^◌, IfOk, ℕ, List as Sequence, length, slice_index_or, []};
 ghost use Rattle.csv.specs.Records.{fields_of};
 ghost use Rattle.csv_tables.specs.Fields.{field_value};
 ghost use Rattle.csv_tables.specs.Outcomes.{collected, rows_of, seen, values_of};
@@ -13,7 +13,7 @@ use crate::header::{bad_header, field_at, header_places};
 use crate::records::{reader_of, take_record};
 use csv::{ByteRecord, Reader};
 use graph_ast::{Column, Table};
-use pgq_base::{Code, List, Row, Rows, Stop, Value};
+use pgq_base::{Code, List, NoMemory, Row, Rows, Stop, Value};
 use std::alloc::Global;
 use std::io::Read;
 
@@ -42,6 +42,13 @@ fn read_cell(
     }
 }
 
+// No values yet, and room for so many.
+fn row_of(alloc: Global, count: usize) -> Result<List<Value>, NoMemory>
+    ensures { IfOk result (λ values. values ≡ []) }
+{
+    Ok(List::from_vec(Vec::with_capacity(alloc, count)?))
+}
+
 // The row of a record.
 fn read_row(
     alloc: Global,
@@ -61,7 +68,7 @@ fn read_row(
             column: 0,
         }));
     }
-    let mut values = List::new(alloc);
+    let mut values = row_of(alloc, columns.len())?;
     for i in 0..columns.len() {
         let number = i as u32 + 1;
         let field = field_at(fields, places[i]);

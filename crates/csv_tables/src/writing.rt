@@ -5,13 +5,14 @@ ghost use Rattle.csv.specs.Records.{fields_of, partial_of};
 ghost use Rattle.pgq_base.specs.declared.value.Value.TheVariants as values;
 ghost use Rattle.csv_tables.specs.Fields.{field_of};
 ghost use Rattle.csv_tables.specs.Outcomes.{values_of};
-ghost use Rattle.csv_tables.specs.Writing.{ascending, record_text, row_line, table_text};
+ghost use Rattle.csv_tables.specs.Writing.{record_text, row_line, table_text};
 ghost use Rattle.csv_tables.specs.Steps.{HasWritten};
 
+use crate::sorting::{Line, sorted};
 use civil_dates::text_of_date;
 use csv::{ByteRecord, Writer};
 use itoa::Buffer;
-use pgq_base::{List, Name, NoMemory, Row, Value, row_order, text_of_decimal};
+use pgq_base::{List, Name, NoMemory, Row, Value, text_of_decimal};
 use std::alloc::Global;
 use std::io::Write;
 
@@ -23,7 +24,8 @@ fn push_text(alloc: Global, fields: &mut ByteRecord, text: &[u8]) -> Result<(), 
 {
     match text {
         [b'\\', ..] => {
-            let mut escaped = Vec::from_slice(alloc, b"\\")?;
+            let mut escaped = Vec::with_capacity(alloc, text.len() + 1)?;
+            escaped.push(b'\\')?;
             escaped.extend_from_slice(text)?;
             fields.push_field(escaped.as_slice())?;
         }
@@ -63,18 +65,6 @@ fn fill(alloc: Global, fields: &mut ByteRecord, row: &Row) -> Result<(), NoMemor
     Ok(())
 }
 
-// The rows in ascending order.
-fn sorted<'a>(alloc: Global, rows: &'a [Row]) -> Result<Vec<&'a Row>, NoMemory>
-    ensures { IfOk result (λ lines. map (λ line. line.now.values) lines.items ≡ ascending (map values_of rows.now)) }
-{
-    let mut lines = Vec::new(alloc);
-    for row in rows {
-        lines.push(row)?;
-    }
-    lines.sort_unstable_by(|a, b| row_order(a.values.as_slice(), b.values.as_slice()));
-    Ok(lines)
-}
-
 // Writes a record behind what is written.
 fn put<W: Write + Drop>(writer: &mut Writer<W>, fields: &ByteRecord) -> Result<(), NoMemory>
     ensures { (text : Sequence ℕ) → HasWritten W.contents writer.old text → OnOk result (HasWritten W.contents writer.new (text ++ record_text (fields_of fields.now))) }
@@ -95,18 +85,43 @@ fn fill_names(fields: &mut ByteRecord, names: &[Name]) -> Result<(), NoMemory>
     Ok(())
 }
 
+// Writes the header: the names as a record.
+fn put_names<W: Write + Drop>(
+    writer: &mut Writer<W>,
+    fields: &mut ByteRecord,
+    names: &[Name],
+) -> Result<(), NoMemory>
+    ensures { (text : Sequence ℕ) → HasWritten W.contents writer.old text → OnOk result (HasWritten W.contents writer.new (text ++ record_text names.now)) }
+{
+    fill_names(fields, names)?;
+    put(writer, fields)
+}
+
+// Writes the rows of the lines, each as a record.
+fn put_rows<W: Write + Drop>(
+    alloc: Global,
+    writer: &mut Writer<W>,
+    fields: &mut ByteRecord,
+    lines: &[Line<'_>],
+) -> Result<(), NoMemory>
+    ensures { (text : Sequence ℕ) → HasWritten W.contents writer.old text
+        → OnOk result (HasWritten W.contents writer.new (text ++ flat_map row_line (map (λ line. line.row.now.values) lines.now))) }
+{
+    for line in lines {
+        fill(alloc, fields, line.row)?;
+        put(writer, fields)?;
+    }
+    Ok(())
+}
+
 // The names and then the rows, each as a record. An error of a writer into memory can only be want of memory.
-fn write_lines(alloc: Global, names: &[Name], lines: &[&Row]) -> Result<Vec<u8>, NoMemory>
-    ensures { IfOk result (λ text. text.items ≡ record_text names.now ++ flat_map row_line (map (λ line. line.now.values) lines.now)) }
+fn write_lines(alloc: Global, names: &[Name], lines: &[Line<'_>]) -> Result<Vec<u8>, NoMemory>
+    ensures { IfOk result (λ text. text.items ≡ record_text names.now ++ flat_map row_line (map (λ line. line.row.now.values) lines.now)) }
 {
     let mut writer = Writer::from_writer(Vec::new(alloc));
     let mut fields = ByteRecord::new(alloc);
-    fill_names(&mut fields, names)?;
-    put(&mut writer, &fields)?;
-    for line in lines {
-        fill(alloc, &mut fields, line)?;
-        put(&mut writer, &fields)?;
-    }
+    put_names(&mut writer, &mut fields, names)?;
+    put_rows(alloc, &mut writer, &mut fields, lines)?;
     if let Ok(text) = writer.into_inner() {
         return Ok(text);
     }

@@ -39,7 +39,8 @@ module _ (decides : (xs ys : RowValues) → Decides (same_values xs ys) (xs ≡ 
       later : (Later → IsIn x rows × (among x (row ∷ earlier) ≡ false)) → Later → IsIn x (row ∷ rows) × (among x earlier ≡ false)
       later more h = (inr (more h).0, (either (same_values x row) (among x earlier) (more h).1).1)
 
-      by : (Later → IsIn x rows × (among x (row ∷ earlier) ≡ false)) → (t : Bool) → among row earlier ≡ t → IsIn x (cond t (different_from (row ∷ earlier) rows) (row ∷ different_from (row ∷ earlier) rows)) → IsIn x (row ∷ rows) × (among x earlier ≡ false)
+      by : (Later → IsIn x rows × (among x (row ∷ earlier) ≡ false)) → (t : Bool) → among row earlier ≡ t
+          → IsIn x (cond t (different_from (row ∷ earlier) rows) (row ∷ different_from (row ∷ earlier) rows)) → IsIn x (row ∷ rows) × (among x earlier ≡ false)
       by more true e h = later more h
       by more false e (inl same) = (inl same, subst (λ r. among r earlier ≡ false) same e)
       by more false e (inr h) = later more h
@@ -58,7 +59,8 @@ module _ (decides : (xs ys : RowValues) → Decides (same_values xs ys) (xs ≡ 
       there true h = h
       there false h = inr h
 
-      by : (IsIn x rows → among x (row ∷ earlier) ≡ false → IsIn x (different_from (row ∷ earlier) rows)) → (t : Bool) → same_values x row ≡ t → IsIn x (row ∷ rows) → IsIn x (different_from earlier (row ∷ rows))
+      by : (IsIn x rows → among x (row ∷ earlier) ≡ false → IsIn x (different_from (row ∷ earlier) rows)) → (t : Bool) → same_values x row ≡ t → IsIn x (row ∷ rows)
+          → IsIn x (different_from earlier (row ∷ rows))
       by more true e h = here (is_same x row e)
       by more false e (inl same) = here (sym same)
       by more false e (inr h) = there (among row earlier) (more h (rw e none))
@@ -74,7 +76,8 @@ module _ (decides : (xs ys : RowValues) → Decides (same_values xs ys) (xs ≡ 
           let yes : same_values row row ≡ true = itself row in
           cc
 
-      by : IsWithoutRepeats (different_from (row ∷ earlier) rows) → (t : Bool) → IsWithoutRepeats (cond t (different_from (row ∷ earlier) rows) (row ∷ different_from (row ∷ earlier) rows))
+      by : IsWithoutRepeats (different_from (row ∷ earlier) rows) → (t : Bool)
+          → IsWithoutRepeats (cond t (different_from (row ∷ earlier) rows) (row ∷ different_from (row ∷ earlier) rows))
       by more true = more
       by more false = (alone, more)
 
@@ -112,8 +115,10 @@ pub record Counted (seen : RowValues → Bool) (count : ℕ) (rows : List Row) (
 pub counted_none : (rows : List Row) (seen : RowValues → Bool) → ((values : RowValues) → seen values ≡ false) → Counted seen 0 rows 0
 counted_none rows seen none = record { earlier = []; held = none; all = zero-add _ ∙ as_many (map values_of rows); few = omega arith }
 
-pub counted_more : (before seen : RowValues → Bool) (count : ℕ) (rows : List Row) (i : ℕ) (row : Row) (fresh : Bool) → Counted before count rows i → i < length rows → row ≡ get_or rows i row
-    → fresh ≡ not (before row.values) → ((values : RowValues) → seen values ≡ (same_values values row.values || before values)) → Counted seen (cond fresh (count + 1) count) rows (i + 1)
+pub counted_more : (before seen : RowValues → Bool) (count : ℕ) (rows : List Row) (i : ℕ) (row : Row) (fresh : Bool) → Counted before count rows i → i < length rows → row
+    ≡ get_or rows i row
+    → fresh ≡ not (before row.values) → ((values : RowValues) → seen values ≡ (same_values values row.values || before values))
+    → Counted seen (cond fresh (count + 1) count) rows (i + 1)
 counted_more before seen count rows i row fresh c h is new grown = record {
   earlier = row.values ∷ c.earlier;
   held = λ values. grown values ∙ ap (λ b. same_values values row.values || b) (c.held values);
@@ -125,7 +130,8 @@ counted_more before seen count rows i row fresh c h is new grown = record {
     more = length (different_from (row.values ∷ c.earlier) (map values_of (drop (i + 1) rows)))
 
     here : length (different_from c.earlier (map values_of (drop i rows))) ≡ cond (among row.values c.earlier) 0 1 + more
-    here = subst (λ r. length (different_from c.earlier (map values_of (drop i rows))) ≡ cond (among r.values c.earlier) 0 1 + length (different_from (r.values ∷ c.earlier) (map values_of (drop (i + 1) rows)))) (sym is) (one_more c.earlier rows i row h)
+    here = subst (λ r. length (different_from c.earlier (map values_of (drop i rows)))
+        ≡ cond (among r.values c.earlier) 0 1 + length (different_from (r.values ∷ c.earlier) (map values_of (drop (i + 1) rows)))) (sym is) (one_more c.earlier rows i row h)
 
     known : fresh ≡ not (among row.values c.earlier)
     known = new ∙ ap not (c.held row.values)

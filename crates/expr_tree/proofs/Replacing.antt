@@ -1,5 +1,6 @@
 -- A node is replaced where its children are; and what is known of each replacement is known of the tree that is made of them.
-use Rattle.std.proofs.Common.{◌≡◌, ℕ, suc, ◌+◌, ◌<◌, Bool, List, [], ◌∷◌, ◌++◌, map, flat_map, take, get_or, length, add-one, Result, Ok, Err, IfOk, refl, sym, ap, ap₂, subst, ◌∙◌, append_assoc}
+use Rattle.std.proofs.Common.{◌≡◌, ℕ, suc, ◌+◌, ◌<◌, Bool, List, [], ◌∷◌, ◌++◌, map, flat_map, take, get_or, length, add-one, Result, Ok, Err, IfOk, refl, sym, ap, ap₂, subst}
+use Rattle.std.proofs.Common.{◌∙◌, append_assoc}
 use Rattle.std.specs.List.{AllByRecursion}
 use Rattle.std.proofs.lemmas.Grind.{flat_map-append}
 use Rattle.std.proofs.lemmas.List.{map-append}
@@ -54,7 +55,8 @@ module _ {L M : Type 0} (Allows : L → Expr M → Type 0) where
     allowed = subst (AllByRecursion Allowed) (sym (leaves.leaf (l, m))) (h, tt);
   }
 
-  pub replaced-Compare : (op : Comparison) (a b : Expr L) (x y : Expr M) → IsReplacedBy Allows a x → IsReplacedBy Allows b y → IsReplacedBy Allows (v.Compare op a b) (v.Compare op x y)
+  pub replaced-Compare : (op : Comparison) (a b : Expr L) (x y : Expr M) → IsReplacedBy Allows a x → IsReplacedBy Allows b y
+      → IsReplacedBy Allows (v.Compare op a b) (v.Compare op x y)
   replaced-Compare op a b x y p q = record {
     paired = v.Compare op p.paired q.paired;
     whole = (replacements (λ (p : Pair). v.Leaf p.0)).compare op p.paired q.paired ∙ ap₂ (v.Compare op) p.whole q.whole;

@@ -1,5 +1,6 @@
 -- What a look-up by name answers.
-use Rattle.std.proofs.Common.{◌≡◌, ℕ, suc, ◌+◌, ◌<◌, Bool, true, false, not, cond, List, [], ◌∷◌, length, map, refl, ap, sym, ◌∙◌, Option, None, Some, option_map, slice_get, get_or, nat_lt, bytes_eq, inl, inr, subst, arith}
+use Rattle.std.proofs.Common.{◌≡◌, ℕ, suc, ◌+◌, ◌<◌, Bool, true, false, not, cond, List, [], ◌∷◌, length, map, refl, ap, sym, ◌∙◌, Option, None, Some, option_map, slice_get}
+use Rattle.std.proofs.Common.{get_or, nat_lt, bytes_eq, inl, inr, subst, arith}
 use Rattle.std.specs.List.{position, position_or_len}
 use Rattle.std.specs.Cmp.Lexicographic.{bytes_decides}
 use Rattle.std.proofs.lemmas.Bool.{lt-ltb}
@@ -20,7 +21,8 @@ module _ {X : Type 0} (name_of : X → List ℕ) (none : X) where
       (b : Bool) → bytes_eq (name_of x) name ≡ b → IsIn name (map name_of (x ∷ xs)) →
       cond (not b) (1 + position_or_len (λ y. bytes_eq (name_of y) name) xs) 0 < suc (length xs)
   there_step name x xs rest true e h = omega arith
-  there_step name x xs rest false e (inl same) = let back : bytes_eq (name_of x) name ≡ true = ap (λ n. bytes_eq (name_of x) n) (sym same) ∙ nat_list_eq_equiv.refl (name_of x) in let never : true ≡ false = sym back ∙ e in cc
+  there_step name x xs rest false e (inl same) = let back : bytes_eq (name_of x) name ≡ true = ap (λ n. bytes_eq (name_of x) n) (sym same)
+      ∙ nat_list_eq_equiv.refl (name_of x) in let never : true ≡ false = sym back ∙ e in cc
   there_step name x xs rest false e (inr h) = let shorter = rest h in omega (arith, shorter)
 
   there : (xs : List X) (name : List ℕ) → IsIn name (map name_of xs) → position_or_len (λ x. bytes_eq (name_of x) name) xs < length xs
@@ -41,8 +43,10 @@ module _ {X : Type 0} (name_of : X → List ℕ) (none : X) where
         let within : earlier < length xs = omega (arith, h, at_place.0) in
         let same : Some (name_of (get_or xs earlier none)) ≡ Some name = sym (at xs name earlier within) ∙ g in
         let itself : name_of (get_or xs earlier none) ≡ name = cc in
-        let passes : bytes_eq (name_of (get_or xs earlier none)) name ≡ true = ap (λ n. bytes_eq (name_of (get_or xs earlier none)) n) (sym itself) ∙ nat_list_eq_equiv.refl (name_of (get_or xs earlier none)) in
+        let passes : bytes_eq (name_of (get_or xs earlier none)) name ≡ true = ap (λ n. bytes_eq (name_of (get_or xs earlier none)) n) (sym itself)
+        ∙ nat_list_eq_equiv.refl (name_of (get_or xs earlier none)) in
         let fails = at_place.2 earlier h in cc;
     missing = λ name e h.
-        not_none (nat_lt (position_or_len (λ x. bytes_eq (name_of x) name) xs) (length xs)) (position_or_len (λ x. bytes_eq (name_of x) name) xs) (lt-ltb (position_or_len (λ x. bytes_eq (name_of x) name) xs) (length xs) (there xs name h)) e;
+        not_none (nat_lt (position_or_len (λ x. bytes_eq (name_of x) name) xs) (length xs)) (position_or_len (λ x. bytes_eq (name_of x) name) xs)
+        (lt-ltb (position_or_len (λ x. bytes_eq (name_of x) name) xs) (length xs) (there xs name h)) e;
   }

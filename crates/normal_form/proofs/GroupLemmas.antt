@@ -1,5 +1,6 @@
 -- Path blocks that are found by their keys.
-use Rattle.std.proofs.Common.{◌≡◌, ℕ, ◌+◌, ◌<◌, inl, inr, Bool, true, false, cond, ◌&&◌, List, [], ◌∷◌, ◌++◌, map, filter, flat_map, drop, get_or, length, append_assoc, nat_eq, Option, None, Some, is_some, unwrap_or, Vec, Global, refl, sym, subst, ap, ap₂, ◌∙◌, arith, true≢false}
+use Rattle.std.proofs.Common.{◌≡◌, ℕ, ◌+◌, ◌<◌, inl, inr, Bool, true, false, cond, ◌&&◌, List, [], ◌∷◌, ◌++◌, map, filter, flat_map, drop, get_or, length, append_assoc, nat_eq}
+use Rattle.std.proofs.Common.{Option, None, Some, is_some, unwrap_or, Vec, Global, refl, sym, subst, ap, ap₂, ◌∙◌, arith, true≢false}
 use Rattle.std.specs.List.{list_all}
 use Rattle.std.specs.HashMap.{HashMap, UpdatesBy, get_by}
 use Rattle.std.specs.Map.{lookup, IsKeyTest, AreApart, KeepsOthers}
@@ -26,7 +27,8 @@ module _ {V : Type 0} (items : V → List ℕ) where
   abbrev at_items : List ℕ → V → Bool
   at_items bs v = pointwise nat_eq bs (items v)
 
-  kept_others : {X : Type 0} (test : V → Bool) (old new : List (V × X)) → KeepsOthers same_items test old new → (other : V → Bool) → IsKeyTest same_items other → AreApart test other
+  kept_others : {X : Type 0} (test : V → Bool) (old new : List (V × X)) → KeepsOthers same_items test old new → (other : V → Bool) → IsKeyTest same_items other
+      → AreApart test other
       → lookup other new ≡ lookup other old
   unfolding KeepsOthers
   kept_others test old new h = h
@@ -120,7 +122,8 @@ module _ {N : Type 0} (now : N → List ℕ) (p : List ℕ → Bool) (xs : List 
   left_out same is h = ap₂ (λ l m. map now l ++ m) is (sym (rest_at ∙ ap (λ b. cond b (now x ∷ rest) rest) h)) ∙ known
 
 -- one path block more is put at its key
-pub grouped_on : (names : List (List ℕ)) (list : List Costed) (i : ℕ) (part : Costed) → i < length list → part ≡ get_or list i part → (own : List ℕ) → own ≡ key_of names (seen part ∷ [])
+pub grouped_on : (names : List (List ℕ)) (list : List Costed) (i : ℕ) (part : Costed) → i < length list → part ≡ get_or list i part → (own : List ℕ) → own
+    ≡ key_of names (seen part ∷ [])
     → (key : List ℕ) (before after whole : List BlockCost) → after ≡ before ++ cond (pointwise nat_eq key own) (seen part ∷ []) []
     → before ++ filter (has_key names key) (map seen (drop i list)) ≡ whole → after ++ filter (has_key names key) (map seen (drop (i + 1) list)) ≡ whole
 grouped_on names list i part here at own own_is key before after whole is known =

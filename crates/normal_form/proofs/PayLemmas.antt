@@ -1,5 +1,6 @@
 -- What is left of an amount after costs, one after another.
-use Rattle.std.proofs.Common.{◌≡◌, ℕ, ◌+◌, ◌-◌, ◌*◌, ◌<◌, ◌≤◌, ◌^◌, min, Bool, true, false, cond, nat_lt, List, [], ◌∷◌, drop, length, get_or, None, Some, refl, ap, ap₂, sym, ◌∙◌, arith, ◌++◌, map, append_assoc}
+use Rattle.std.proofs.Common.{◌≡◌, ℕ, ◌+◌, ◌-◌, ◌*◌, ◌<◌, ◌≤◌, ◌^◌, min, Bool, true, false, cond, nat_lt, List, [], ◌∷◌, drop, length, get_or, None, Some, refl, ap, ap₂, sym}
+use Rattle.std.proofs.Common.{◌∙◌, arith, ◌++◌, map, append_assoc}
 use Rattle.std.specs.Option.{unwrap_or}
 use Rattle.std.proofs.lemmas.Bool.Decides.{nat_tests}
 use Rattle.std.specs.List.{sum_by, enumerate_from}

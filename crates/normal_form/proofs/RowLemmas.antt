@@ -1,5 +1,6 @@
 -- Rows of path blocks, list by list.
-use Rattle.std.proofs.Common.{◌≡◌, ℕ, zero, suc, ◌+◌, ◌<◌, ◌≤◌, inl, inr, Bool, true, false, cond, ◌&&◌, List, [], ◌∷◌, ◌++◌, map, filter, flat_map, length, take, drop, get_or, nat_eq, bytes_eq, Option, None, Some, refl, sym, ap, ap₂, ◌∙◌, arith, true≢false}
+use Rattle.std.proofs.Common.{◌≡◌, ℕ, zero, suc, ◌+◌, ◌<◌, ◌≤◌, inl, inr, Bool, true, false, cond, ◌&&◌, List, [], ◌∷◌, ◌++◌, map, filter, flat_map, length, take, drop, get_or}
+use Rattle.std.proofs.Common.{nat_eq, bytes_eq, Option, None, Some, refl, sym, ap, ap₂, ◌∙◌, arith, true≢false}
 use Rattle.std.specs.List.{list_any, list_all}
 use Rattle.std.proofs.lemmas.List.Folds.{list_all-append}
 use Rattle.std.proofs.lemmas.Bool.Decides.{Decides-eqb}
@@ -115,7 +116,8 @@ module _ (name : List ℕ) (row : List Costed) (i : ℕ) (part : Costed) (here :
   pub held_here : (x : ℕ) → first_of (tagged_in name part.block.now) ≡ Some x → first_of (tagged_along name (map seen (drop i row))) ≡ Some x
   held_here x h = ap first_of along_at ∙ first_there (tagged_in name part.block.now) (tagged_along name (map seen (drop (i + 1) row))) x h
 
-  pub held_later : first_of (tagged_in name part.block.now) ≡ None → first_of (tagged_along name (map seen (drop i row))) ≡ first_of (tagged_along name (map seen (drop (i + 1) row)))
+  pub held_later : first_of (tagged_in name part.block.now) ≡ None → first_of (tagged_along name (map seen (drop i row)))
+      ≡ first_of (tagged_along name (map seen (drop (i + 1) row)))
   held_later h = ap first_of along_at ∙ first_not_there (tagged_in name part.block.now) (tagged_along name (map seen (drop (i + 1) row))) h
 
 -- one that is as the element

@@ -1,5 +1,6 @@
 -- Rows of path blocks that are joined by the names of a query are those that share what they have to.
-use Rattle.std.proofs.Common.{◌≡◌, ℕ, zero, suc, ◌+◌, ◌-◌, inl, inr, Bool, true, false, cond, List, [], ◌∷◌, ◌++◌, map, filter, flat_map, length, take, nat_eq, bytes_eq, refl, sym, subst, ap, ap₂, ◌∙◌, arith}
+use Rattle.std.proofs.Common.{◌≡◌, ℕ, zero, suc, ◌+◌, ◌-◌, inl, inr, Bool, true, false, cond, List, [], ◌∷◌, ◌++◌, map, filter, flat_map, length, take, nat_eq, bytes_eq, refl}
+use Rattle.std.proofs.Common.{sym, subst, ap, ap₂, ◌∙◌, arith}
 use Rattle.std.specs.List.{list_any, list_all, sum_by, enumerate_from, take-map}
 use Rattle.std.proofs.lemmas.List.{length-map}
 use Rattle.std.proofs.lemmas.List.Sums.{sum_by-cons}
@@ -123,7 +124,8 @@ module _ (graph : Graph) (query : CheckedQuery) (names : List (List ℕ)) (same 
   shared_by_blocks blocks even =
       same (λ name. all_same nat_eq (flat_map (tagged_in name) blocks))
       ∙ all_alike (λ name. all_same nat_eq (flat_map (tagged_in name) blocks))
-      (λ name. all_same nat_eq (tagged name (flat_map (λ (block : PathBlock). block.tags) blocks) (flat_map (λ (block : PathBlock). block.elements) blocks))) (query_singletons query)
+      (λ name. all_same nat_eq (tagged name (flat_map (λ (block : PathBlock). block.tags) blocks) (flat_map (λ (block : PathBlock). block.elements) blocks)))
+      (query_singletons query)
       (λ name k. ap (all_same nat_eq) (sym (block_by_block name blocks even)))
 
   rows_alone : (lists : List (List BlockCost)) (whole : List (List PathBlock)) → map (map (λ part. part.0)) lists ≡ whole
@@ -156,7 +158,8 @@ module _ (graph : Graph) (query : CheckedQuery) (names : List (List ℕ)) (same 
     pub payment_is : payment names lists ≡ join_weight graph query
     payment_is =
         same_sum (λ more. length (joined names (take (more + 2) lists)))
-        (λ more. length (filter (is_shared query) (combinations (take (more + 2) (query_path_blocks graph query))))) (λ more. first_paths (more + 2)) (numbers_below (length lists - 2))
+        (λ more. length (filter (is_shared query) (combinations (take (more + 2) (query_path_blocks graph query))))) (λ more. first_paths (more + 2))
+        (numbers_below (length lists - 2))
         ∙ ap (λ n. sum_by (λ more. length (filter (is_shared query) (combinations (take (more + 2) (query_path_blocks graph query))))) (numbers_below (n - 2))) as_many
 
     -- with their costs, the rows are the graph blocks with theirs
@@ -183,7 +186,8 @@ same_map f g e [] = refl
 same_map f g e (x ∷ xs) = ap₂ (λ a l. a ∷ l) (e x) (same_map f g e xs)
 
 -- path blocks that cost nothing
-pub free_alone : (lists whole : List (List PathBlock)) (parts : List (List BlockCost)) → lists ≡ whole → parts ≡ map (map (λ block. (block, 0))) lists → map (map (λ part. part.0)) parts ≡ whole
+pub free_alone : (lists whole : List (List PathBlock)) (parts : List (List BlockCost)) → lists ≡ whole → parts ≡ map (map (λ block. (block, 0))) lists
+    → map (map (λ part. part.0)) parts ≡ whole
 free_alone lists whole parts of is =
     ap (map (map (λ (part : BlockCost). part.0))) is
     ∙ map_twice (map (λ (part : BlockCost). part.0)) (map (λ block. (block, 0))) lists

@@ -1,5 +1,6 @@
 -- Rows list by list, and what they pay.
-use Rattle.std.proofs.Common.{◌≡◌, ℕ, zero, suc, ◌+◌, ◌-◌, ◌<◌, ◌≤◌, min, Bool, true, false, cond, nat_eq, nat_lt, List, [], ◌∷◌, ◌++◌, map, flat_map, length, take, get_or, option_map, Option, None, Some, refl, sym, subst, ap, ap₂, ◌∙◌, arith, true≢false}
+use Rattle.std.proofs.Common.{◌≡◌, ℕ, zero, suc, ◌+◌, ◌-◌, ◌<◌, ◌≤◌, min, Bool, true, false, cond, nat_eq, nat_lt, List, [], ◌∷◌, ◌++◌, map, flat_map, length, take, get_or}
+use Rattle.std.proofs.Common.{option_map, Option, None, Some, refl, sym, subst, ap, ap₂, ◌∙◌, arith, true≢false}
 use Rattle.std.specs.List.{range_with_len, sum_by}
 use Rattle.std.proofs.lemmas.Bool.{le-ltb, ltb-true, ltb-false}
 use Rattle.std.proofs.lemmas.List.{take_all, get_or-map, length-map}
@@ -107,7 +108,8 @@ module _ (names : List (List ℕ)) (lists : List (List BlockCost)) (limit : ℕ)
             omega (arith, ap length (grown_is ∙ ap (joined names) all), paid_within place, known.left, h)
 
   -- all lists are joined
-  module _ (place rest : ℕ) (rows these : List (List Costed)) (known : IsPaid names lists limit place (map (map seen) rows) rest) (past : length lists ≤ place) (alike : these ≡ rows) where
+  module _ (place rest : ℕ) (rows these : List (List Costed)) (known : IsPaid names lists limit place (map (map seen) rows) rest) (past : length lists ≤ place)
+      (alike : these ≡ rows) where
     all_rows : map (map seen) rows ≡ joined names lists
     all_rows = known.rows ∙ ap (joined names) (take_all place lists past)
 

@@ -1,6 +1,8 @@
 -- Sizes as far as 64 bits hold them.
-use Rattle.std.proofs.Common.{◌≡◌, ℕ, zero, suc, ◌+◌, ◌-◌, ◌*◌, ◌^◌, ◌<◌, ◌≤◌, min, Bool, true, false, nat_lt, List, [], ◌∷◌, ◌++◌, flat_map, replicate, take, length, get_or, refl, ap, ap₂, sym, ◌∙◌, arith, append_assoc}
-use Rattle.std.proofs.Math.Nat.{min_comm, min-eq_left, min-eq_right, min-le_right, min-zero, zero-min, mul-zero, zero-mul, suc-mul, zero-add, le_trans, le-mul_of_pos_right, le-min, mul_comm}
+use Rattle.std.proofs.Common.{◌≡◌, ℕ, zero, suc, ◌+◌, ◌-◌, ◌*◌, ◌^◌, ◌<◌, ◌≤◌, min, Bool, true, false, nat_lt, List, [], ◌∷◌, ◌++◌, flat_map, replicate, take, length, get_or}
+use Rattle.std.proofs.Common.{refl, ap, ap₂, sym, ◌∙◌, arith, append_assoc}
+use Rattle.std.proofs.Math.Nat.{min_comm, min-eq_left, min-eq_right, min-le_right, min-zero, zero-min, mul-zero, zero-mul, suc-mul, zero-add, le_trans, le-mul_of_pos_right}
+use Rattle.std.proofs.Math.Nat.{le-min, mul_comm}
 use Rattle.std.proofs.lemmas.Bool.Decides.{nat_tests}
 use Rattle.std.specs.List.{sum_by}
 use Rattle.std.proofs.lemmas.List.{take_more}

@@ -1,5 +1,6 @@
 -- What graph blocks weigh, from what their path blocks cost.
-use Rattle.std.proofs.Common.{◌≡◌, ℕ, zero, suc, ◌+◌, ◌-◌, ◌*◌, ◌<◌, ◌≤◌, Bool, true, false, cond, nat_lt, List, [], ◌∷◌, ◌++◌, map, flat_map, drop, take, length, get_or, slice_index_or, Option, None, Some, refl, ap, ap₂, sym, subst, ◌∙◌, arith, append_assoc, filter}
+use Rattle.std.proofs.Common.{◌≡◌, ℕ, zero, suc, ◌+◌, ◌-◌, ◌*◌, ◌<◌, ◌≤◌, Bool, true, false, cond, nat_lt, List, [], ◌∷◌, ◌++◌, map, flat_map, drop, take, length, get_or}
+use Rattle.std.proofs.Common.{slice_index_or, Option, None, Some, refl, ap, ap₂, sym, subst, ◌∙◌, arith, append_assoc, filter}
 use Rattle.std.proofs.Math.Nat.{zero-add, add-zero, mul-zero, mul-suc, mul_comm, le-mul_of_pos_right}
 use Rattle.std.specs.List.{sum_by, list_all, enumerate_from}
 use Rattle.std.proofs.lemmas.List.{drop_more}

@@ -20,11 +20,7 @@ mod rows;
 mod search;
 mod sizes;
 mod tags;
-#[cfg(test)]
-mod tests;
 mod weight;
-#[cfg(test)]
-mod weight_tests;
 
 pub use joined::blocks;
 pub use laws::{blocks_by_findings, blocks_by_path, findings_gathered};

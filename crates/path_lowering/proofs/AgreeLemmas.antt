@@ -45,7 +45,8 @@ pub same_pairs : (xs : List GraphElement) → ((x y : GraphElement) → IsIn x x
 same_pairs [] h = refl
 same_pairs (z ∷ zs) h = of_each (same_element z) zs (λ w k. h z w (inl refl) (inr k))
 
-pub tagged-append : {X : Type 0} (name : List ℕ) (ts us : List Tags) (xs ys : List X) → length ts ≡ length xs → tagged name (ts ++ us) (xs ++ ys) ≡ tagged name ts xs ++ tagged name us ys
+pub tagged-append : {X : Type 0} (name : List ℕ) (ts us : List Tags) (xs ys : List X) → length ts ≡ length xs → tagged name (ts ++ us) (xs ++ ys)
+    ≡ tagged name ts xs ++ tagged name us ys
 tagged-append name [] us [] ys h = refl
 tagged-append name [] us (x ∷ xs) ys h = absurd (omega arith)
 tagged-append name (t ∷ ts) us [] ys h = absurd (omega arith)

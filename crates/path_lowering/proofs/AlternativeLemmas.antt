@@ -28,17 +28,22 @@ none true = refl
 none false = refl
 
 module _ (env : ColumnLeaf → Value) (common : List SqlCondition) where
-  one_split : (alternative rest : List SqlCondition) → ((c : SqlCondition) → IsIn c alternative ↔ (IsIn c common ⊎ IsIn c rest)) → all_true_in env alternative ≡ (all_true_in env common && all_true_in env rest)
+  one_split : (alternative rest : List SqlCondition) → ((c : SqlCondition) → IsIn c alternative ↔ (IsIn c common ⊎ IsIn c rest)) → all_true_in env alternative
+      ≡ (all_true_in env common && all_true_in env rest)
   one_split alternative rest split =
       both_ways _ _
-      (λ h. and_join _ _ (of_each (true_in env) common (λ c k. each_of (true_in env) alternative h c ((split c).1 (inl k)))) (of_each (true_in env) rest (λ c k. each_of (true_in env) alternative h c ((split c).1 (inr k)))))
-      (λ h. let p = and_parts _ _ h in of_each (true_in env) alternative (λ c k. elim ((split c).0 k) [ inl m ↦ each_of (true_in env) common p.0 c m | inr m ↦ each_of (true_in env) rest p.1 c m ]))
+      (λ h. and_join _ _ (of_each (true_in env) common (λ c k. each_of (true_in env) alternative h c ((split c).1 (inl k))))
+      (of_each (true_in env) rest (λ c k. each_of (true_in env) alternative h c ((split c).1 (inr k)))))
+      (λ h. let p = and_parts _ _ h in of_each (true_in env) alternative
+      (λ c k. elim ((split c).0 k) [ inl m ↦ each_of (true_in env) common p.0 c m | inr m ↦ each_of (true_in env) rest p.1 c m ]))
 
-  all_split : (alternatives rests : List (List SqlCondition)) → AreSplit common alternatives rests → list_any (all_true_in env) alternatives ≡ (all_true_in env common && list_any (all_true_in env) rests)
+  all_split : (alternatives rests : List (List SqlCondition)) → AreSplit common alternatives rests → list_any (all_true_in env) alternatives
+      ≡ (all_true_in env common && list_any (all_true_in env) rests)
   all_split [] [] h = none (all_true_in env common)
   all_split [] (r ∷ rs) h = absurd h
   all_split (a ∷ more) [] h = absurd h
-  all_split (a ∷ more) (r ∷ rs) h = ap₂ (λ x y. x || y) (one_split a r h.0) (all_split more rs h.1) ∙ drawn_out (all_true_in env common) (all_true_in env r) (list_any (all_true_in env) rs)
+  all_split (a ∷ more) (r ∷ rs) h = ap₂ (λ x y. x || y) (one_split a r h.0) (all_split more rs h.1) ∙ drawn_out (all_true_in env common) (all_true_in env r)
+      (list_any (all_true_in env) rs)
 
 or_right : (b : Bool) → (b || true) ≡ true
 or_right true = refl
@@ -51,11 +56,14 @@ empty_met env ([] ∷ rs) h = refl
 empty_met env ((c ∷ cs) ∷ rs) h = ap (λ b. all_true_in env (c ∷ cs) || b) (empty_met env rs h) ∙ or_right (all_true_in env (c ∷ cs))
 
 -- what all alternatives share, and one OR of the rest
-pub several_say : (common : List SqlCondition) (alternatives rests : List (List SqlCondition)) → AreSplit common alternatives rests → SaysAny alternatives (shared_outside common rests)
+pub several_say : (common : List SqlCondition) (alternatives rests : List (List SqlCondition)) → AreSplit common alternatives rests
+    → SaysAny alternatives (shared_outside common rests)
 several_say common alternatives rests split = λ env. go env (list_any is_empty rests) refl ∙ sym (all_split env common alternatives rests split)
   where
-    go : (env : ColumnLeaf → Value) (b : Bool) → list_any is_empty rests ≡ b → all_true_in env (cond b common (common ++ any_of (map all_of rests) ∷ [])) ≡ (all_true_in env common && list_any (all_true_in env) rests)
+    go : (env : ColumnLeaf → Value) (b : Bool) → list_any is_empty rests ≡ b → all_true_in env (cond b common (common ++ any_of (map all_of rests) ∷ []))
+        ≡ (all_true_in env common && list_any (all_true_in env) rests)
     go env true e = sym (ap (λ b. all_true_in env common && b) (empty_met env rests e) ∙ and_kept (all_true_in env common))
     go env false e =
         list_all-append (true_in env) common (any_of (map all_of rests) ∷ [])
-        ∙ ap (λ b. all_true_in env common && b) (and_kept _ ∙ true_any_of env (map all_of rests) ∙ list_any-map (true_in env) all_of rests ∙ any-each _ (all_true_in env) rests (true_all_of env))
+        ∙ ap (λ b. all_true_in env common && b) (and_kept _ ∙ true_any_of env (map all_of rests) ∙ list_any-map (true_in env) all_of rests
+        ∙ any-each _ (all_true_in env) rests (true_all_of env))

@@ -7,7 +7,8 @@ use Rattle.path_lowering.specs.Sameness.{same_condition}
 use Rattle.path_lowering.specs.Apart.{is_among}
 use Rattle.path_lowering.proofs.SamenessLemmas.{same_test}
 
-any_step : (p : SqlCondition → Bool) (xs : List SqlCondition) (i : ℕ) (x : SqlCondition) → x ≡ get_or xs i x → i < length xs → list_any p (drop i xs) ≡ (p x || list_any p (drop (i + 1) xs))
+any_step : (p : SqlCondition → Bool) (xs : List SqlCondition) (i : ℕ) (x : SqlCondition) → x ≡ get_or xs i x → i < length xs → list_any p (drop i xs)
+    ≡ (p x || list_any p (drop (i + 1) xs))
 any_step p xs i x is h = rw (add-one, drop-cons xs i x) (ap (λ z. p z || list_any p (drop (suc i) xs)) (sym is))
 
 pub found_here : (xs : List SqlCondition) (i : ℕ) (x c : SqlCondition) (r : Bool) → x ≡ get_or xs i x → i < length xs → (IsTrue r ↔ (c ≡ x)) → r ≡ true

@@ -1,5 +1,6 @@
 -- The rows of a block, laid out, are those of the block's part of the answer.
-use Rattle.std.proofs.Common.{◌≡◌, ℕ, zero, suc, ◌+◌, ◌*◌, ◌≤◌, Bool, true, false, ◌&&◌, cond, List, [], ◌∷◌, ◌++◌, map, filter, flat_map, length, drop, refl, sym, ap, ap₂, ◌∙◌, inl, inr, arith, Option, None, Some, length-append}
+use Rattle.std.proofs.Common.{◌≡◌, ℕ, zero, suc, ◌+◌, ◌*◌, ◌≤◌, Bool, true, false, ◌&&◌, cond, List, [], ◌∷◌, ◌++◌, map, filter, flat_map, length, drop, refl, sym, ap, ap₂, ◌∙◌}
+use Rattle.std.proofs.Common.{inl, inr, arith, Option, None, Some, length-append}
 use Rattle.std.specs.List.{AllZip, enumerate_from}
 use Rattle.pgq_base.specs.Instances.{RowValues, TableRows, InstanceRows}
 use Rattle.expr_tree.specs.Meaning.{value_in}
@@ -22,7 +23,8 @@ use Rattle.graph_meaning.specs.Conditions.{leaf_value, held_by}
 use Rattle.graph_meaning.specs.Readings.{reads}
 use Rattle.graph_meaning.specs.Bindings.{keeps_mode, bindings_in_mode, is_selected, group_count}
 use Rattle.graph_meaning.specs.Answers.{GraphBinding, all_tags, all_elements, query_singletons, meets_where, is_joined, answer_row}
-use Rattle.graph_meaning.specs.Rows.{tables_after, tables_of, tuples, steps_with, walk_with, binding_with, bindings_with, rows_read, part_passes, parts_pass, mode_passes, rows_pass, block_tuples, answer_of_block}
+use Rattle.graph_meaning.specs.Rows.{tables_after, tables_of, tuples, steps_with, walk_with, binding_with, bindings_with, rows_read, part_passes, parts_pass, mode_passes}
+use Rattle.graph_meaning.specs.Rows.{rows_pass, block_tuples, answer_of_block}
 use Rattle.graph_meaning.proofs.Members.{from_filter, from_combinations, ArePicks}
 use Rattle.graph_meaning.proofs.RowLemmas.{AreNumbers, AreNumbersAfter}
 use Rattle.path_lowering.specs.declared.spots.Kind.TheVariants.{Vertex, Edge}
@@ -73,7 +75,8 @@ combinations_append {X} (x ∷ xs) ys =
 abbrev pub all_rows : {X : Type 0} → List (List X) → List X
 all_rows rows = flat_map (λ own. own) rows
 
-combinations_all : {A X : Type 0} (tables : A → List (List X)) (parts : List A) → combinations (flat_map tables parts) ≡ map all_rows (combinations (map (λ part. combinations (tables part)) parts))
+combinations_all : {A X : Type 0} (tables : A → List (List X)) (parts : List A) → combinations (flat_map tables parts)
+    ≡ map all_rows (combinations (map (λ part. combinations (tables part)) parts))
 combinations_all tables [] = refl
 combinations_all tables (p ∷ ps) =
     combinations_append (tables p) (flat_map tables ps)
@@ -196,13 +199,16 @@ module _ (graph : Graph) (instance : InstanceRows) where
   abbrev AreLong : List (List RowValues) → List PathBlock → Type 0
   AreLong rows parts = AllZip (λ r part. length r ≡ length part.elements) rows parts
 
-  long_from : (paths : List CheckedPath) (parts : List PathBlock) (rows : List (List RowValues)) → AllZip Fitting paths parts → ArePicks rows (map (λ part. tuples graph instance part.elements) parts) → AreLong rows parts
+  long_from : (paths : List CheckedPath) (parts : List PathBlock) (rows : List (List RowValues)) → AllZip Fitting paths parts
+      → ArePicks rows (map (λ part. tuples graph instance part.elements) parts) → AreLong rows parts
   long_from paths [] [] are h = tt
   long_from paths [] (r ∷ rs) are h = absurd h
   long_from paths (p ∷ ps) [] are h = absurd h
   long_from [] (p ∷ ps) (r ∷ rs) are h = absurd are
-  long_from (path ∷ paths) (p ∷ ps) (r ∷ rs) are h =
-      (picks_many r (tables_of graph instance p.elements) (from_combinations r (tables_of graph instance p.elements) h.0) ∙ tables_many p.elements are.0.numbers, long_from paths ps rs are.1 h.1)
+  long_from (path ∷ paths) (p ∷ ps) (r ∷ rs) are h = (
+    picks_many r (tables_of graph instance p.elements) (from_combinations r (tables_of graph instance p.elements) h.0) ∙ tables_many p.elements are.0.numbers,
+    long_from paths ps rs are.1 h.1,
+  )
 
   -- one path
   module _ (path : CheckedPath) (part : PathBlock) (ok : Fitting path part) (r : List RowValues) (long : length r ≡ length part.elements) where
@@ -253,7 +259,8 @@ module _ (graph : Graph) (instance : InstanceRows) where
       ∙ apart (rows_read graph instance path p r) (keeps_mode path.mode (walk_with graph p.elements r)) (row_selected path p r) (all_read paths ps rs) (all_selected paths ps rs)
 
   -- without a selector each binding is kept
-  none_selected : (paths : List CheckedPath) (parts : List PathBlock) (rows : List (List RowValues)) → ((path : CheckedPath) → IsIn path paths → path.all_shortest ≡ false) → all_selected paths parts rows ≡ true
+  none_selected : (paths : List CheckedPath) (parts : List PathBlock) (rows : List (List RowValues)) → ((path : CheckedPath) → IsIn path paths → path.all_shortest ≡ false)
+      → all_selected paths parts rows ≡ true
   none_selected [] parts rows h = refl
   none_selected (path ∷ paths) [] rows h = refl
   none_selected (path ∷ paths) (p ∷ ps) [] h = refl
@@ -300,7 +307,8 @@ module _ (graph : Graph) (instance : InstanceRows) where
     tags_bound (p ∷ ps) [] l = absurd l
     tags_bound (p ∷ ps) (r ∷ rs) l = ap (λ t. p.tags ++ t) (tags_bound ps rs l.1)
 
-    elements_laid : (paths : List CheckedPath) (parts : List PathBlock) (items : List ℕ) (rows : List (List RowValues)) → AllZip Fitting paths parts → length items ≡ length (numbers_in parts) → AreLong rows parts
+    elements_laid : (paths : List CheckedPath) (parts : List PathBlock) (items : List ℕ) (rows : List (List RowValues)) → AllZip Fitting paths parts → length items
+        ≡ length (numbers_in parts) → AreLong rows parts
         → place_elements graph (laid_spots (laid paths parts items)) (all_rows rows) ≡ all_elements (bindings_with graph parts rows)
     elements_laid [] [] items [] are long l = refl
     elements_laid [] [] items (r ∷ rs) are long l = absurd l
@@ -309,10 +317,12 @@ module _ (graph : Graph) (instance : InstanceRows) where
     elements_laid (path ∷ paths) (p ∷ ps) items [] are long l = absurd l
     elements_laid (path ∷ paths) (p ∷ ps) items (r ∷ rs) are long l =
         let split = items_split p ps items long in
-        place_both (spots_along Vertex p.elements items) (laid_spots (laid paths ps (drop (length p.elements) items))) r (all_rows rs) (l.0 ∙ sym (spots_many Vertex p.elements items split.0))
+        place_both (spots_along Vertex p.elements items) (laid_spots (laid paths ps (drop (length p.elements) items))) r (all_rows rs)
+        (l.0 ∙ sym (spots_many Vertex p.elements items split.0))
         ∙ ap₂ (λ a b. a ++ b) (places_are p.elements items r are.0.numbers split.0 l.0) (elements_laid paths ps (drop (length p.elements) items) rs are.1 split.1 l.1)
 
-    passes_laid : (paths : List CheckedPath) (parts : List PathBlock) (items : List ℕ) (rows : List (List RowValues)) → AllZip Fitting paths parts → length items ≡ length (numbers_in parts) → AreLong rows parts
+    passes_laid : (paths : List CheckedPath) (parts : List PathBlock) (items : List ℕ) (rows : List (List RowValues)) → AllZip Fitting paths parts → length items
+        ≡ length (numbers_in parts) → AreLong rows parts
         → passes_paths graph instance (laid paths parts items) (all_rows rows) ≡ all_read paths parts rows
     passes_laid [] [] items [] are long l = refl
     passes_laid [] [] items (r ∷ rs) are long l = absurd l
@@ -334,7 +344,8 @@ module _ (graph : Graph) (instance : InstanceRows) where
     behind true false false = refl
     behind false j s = refl
 
-    last_is : (parts : GraphBinding) (condition : Option Condition) → meets_last graph instance (held_by (all_tags parts) (all_elements parts)) condition ≡ meets_where graph instance condition parts
+    last_is : (parts : GraphBinding) (condition : Option Condition) → meets_last graph instance (held_by (all_tags parts) (all_elements parts)) condition
+        ≡ meets_where graph instance condition parts
     last_is parts None = refl
     last_is parts (Some c) = refl
 
@@ -356,7 +367,8 @@ module _ (graph : Graph) (instance : InstanceRows) where
         elements_same : place_elements graph (laid_spots parts) (all_rows rows) ≡ all_elements bound
         elements_same = elements_laid query.paths block.paths items rows are long l
 
-        pub passes_same : (passes_block graph instance names parts query.condition (all_rows rows) && all_selected query.paths block.paths rows) ≡ rows_pass graph instance query [] block rows
+        pub passes_same : (passes_block graph instance names parts query.condition (all_rows rows) && all_selected query.paths block.paths rows)
+            ≡ rows_pass graph instance query [] block rows
         passes_same =
             ap (λ b. b && all_selected query.paths block.paths rows)
             (ap₂ (λ a b. a && b) (passes_laid query.paths block.paths items rows are long l)
@@ -373,27 +385,34 @@ module _ (graph : Graph) (instance : InstanceRows) where
       abbrev made : List RowValues → RowValues
       made = block_row graph instance parts query.columns
 
-      many : (rows : List (List RowValues)) → IsIn rows (block_tuples graph instance block) → AreLong rows block.paths
+      pub many : (rows : List (List RowValues)) → IsIn rows (block_tuples graph instance block) → AreLong rows block.paths
       many rows h = long_from query.paths block.paths rows are (from_combinations rows (map (λ part. tuples graph instance part.elements) block.paths) h)
 
-      -- where one test more says what the selectors keep, the rows that pass it are the block's part of the answer
-      pub block_is_besides : (extra : List RowValues → Bool)
-          → ((rows : List (List RowValues)) → IsIn rows (block_tuples graph instance block) → extra (all_rows rows) ≡ all_selected query.paths block.paths rows)
-          → block_rows_besides graph instance names parts query.condition query.columns extra ≡ answer_of_block graph instance query [] [] block
-      block_is_besides extra selects =
-          ap (λ tables. map made (filter passes (combinations tables))) (all_tables query.paths block.paths items are long)
-          ∙ ap (λ l. map made (filter passes l)) (combinations_all (λ part. tables_of graph instance part.elements) block.paths)
-          ∙ ap (map made) (filter-map passes all_rows (block_tuples graph instance block))
-          ∙ map-again made all_rows (filter (λ rows. passes (all_rows rows)) (block_tuples graph instance block))
-          ∙ ap (map (λ rows. made (all_rows rows))) (filter-each (λ rows. passes (all_rows rows)) (rows_pass graph instance query [] block) (block_tuples graph instance block)
-          (λ rows h. ap (λ b. passes_block graph instance names parts query.condition (all_rows rows) && b) (selects rows h) ∙ passes_same rows (many rows h)))
-          ∙ map-each (λ rows. made (all_rows rows)) (λ rows. answer_row graph instance query [] (bindings_with graph block.paths rows)) (filter (rows_pass graph instance query [] block) (block_tuples graph instance block))
-          (λ rows h. row_same rows (many rows (from_filter (rows_pass graph instance query [] block) rows (block_tuples graph instance block) h).0))
-        where
-          passes : List RowValues → Bool
-          passes rows = passes_block graph instance names parts query.condition rows && extra rows
+      -- where one test more says what the selectors keep, the rows that pass it are those of the block's part of the answer
+      module _ (extra : List RowValues → Bool)
+          (selects : (rows : List (List RowValues)) → IsIn rows (block_tuples graph instance block) → extra (all_rows rows) ≡ all_selected query.paths block.paths rows) where
+        abbrev passes : List RowValues → Bool
+        passes rows = passes_block graph instance names parts query.condition rows && extra rows
 
-      pub block_is : ((path : CheckedPath) → IsIn path query.paths → path.all_shortest ≡ false) → block_rows graph instance names parts query.condition query.columns ≡ answer_of_block graph instance query [] [] block
+        pub rows_besides : filter passes (combinations (map table_of (laid_spots parts)))
+            ≡ map all_rows (filter (rows_pass graph instance query [] block) (block_tuples graph instance block))
+        rows_besides =
+            ap (λ tables. filter passes (combinations tables)) (all_tables query.paths block.paths items are long)
+            ∙ ap (filter passes) (combinations_all (λ part. tables_of graph instance part.elements) block.paths)
+            ∙ filter-map passes all_rows (block_tuples graph instance block)
+            ∙ ap (map all_rows) (filter-each (λ rows. passes (all_rows rows)) (rows_pass graph instance query [] block) (block_tuples graph instance block)
+            (λ rows h. ap (λ b. passes_block graph instance names parts query.condition (all_rows rows) && b) (selects rows h) ∙ passes_same rows (many rows h)))
+
+        pub block_is_besides : block_rows_besides graph instance names parts query.condition query.columns extra ≡ answer_of_block graph instance query [] [] block
+        block_is_besides =
+            ap (map made) rows_besides
+            ∙ map-again made all_rows (filter (rows_pass graph instance query [] block) (block_tuples graph instance block))
+            ∙ map-each (λ rows. made (all_rows rows)) (λ rows. answer_row graph instance query [] (bindings_with graph block.paths rows))
+            (filter (rows_pass graph instance query [] block) (block_tuples graph instance block))
+            (λ rows h. row_same rows (many rows (from_filter (rows_pass graph instance query [] block) rows (block_tuples graph instance block) h).0))
+
+      pub block_is : ((path : CheckedPath) → IsIn path query.paths → path.all_shortest ≡ false) → block_rows graph instance names parts query.condition query.columns
+          ≡ answer_of_block graph instance query [] [] block
       block_is unselected =
           ap (map made) (filter-each (passes_block graph instance names parts query.condition) (λ rows. passes_block graph instance names parts query.condition rows && true)
           (combinations (map table_of (laid_spots parts))) (λ rows h. sym (and_kept (passes_block graph instance names parts query.condition rows))))

@@ -83,7 +83,8 @@ apart_several first (other ∷ others) h = refl
 
 -- what is split off step by step is split
 pub split_is : (first common rest shared : List SqlCondition) (others seen rests : List (List SqlCondition)) → seen ≡ others → common ≡ filter (is_in_all seen) first
-    → rest ≡ filter (λ condition. not (is_in_all seen condition)) first → shared ≡ common → rests ≡ rest ∷ map (without shared) others → shared_outside common rests ≡ split first others
+    → rest ≡ filter (λ condition. not (is_in_all seen condition)) first → shared ≡ common → rests ≡ rest ∷ map (without shared) others → shared_outside common rests
+    ≡ split first others
 split_is first common rest shared others seen rests e c r s all =
     let own : common ≡ filter (is_in_all others) first = c ∙ ap (λ o. filter (is_in_all o) first) e in
     ap₂ shared_outside own (all ∙ ap₂ (λ x y. x ∷ map (without y) others) (r ∙ ap (λ o. filter (λ condition. not (is_in_all o condition)) first) e) (s ∙ own))

@@ -1,5 +1,6 @@
 -- When the conditions of a block are True.
-use Rattle.std.proofs.Common.{◌≡◌, ℕ, zero, suc, ◌+◌, ◌*◌, ◌<◌, ◌≤◌, Bool, true, false, ◌&&◌, ◌||◌, List, [], ◌∷◌, ◌++◌, map, flat_map, length, refl, sym, ap, ap₂, subst, ◌∙◌, inl, inr, nat_eq, Option, None, Some, arith}
+use Rattle.std.proofs.Common.{◌≡◌, ℕ, zero, suc, ◌+◌, ◌*◌, ◌<◌, ◌≤◌, Bool, true, false, ◌&&◌, ◌||◌, List, [], ◌∷◌, ◌++◌, map, flat_map, length, refl, sym, ap, ap₂, subst, ◌∙◌}
+use Rattle.std.proofs.Common.{inl, inr, nat_eq, Option, None, Some, arith}
 use Rattle.std.specs.Prelude.{slice_get}
 use Rattle.std.specs.List.{list_all, list_any}
 use Rattle.std.proofs.lemmas.Bool.{and_parts}
@@ -108,42 +109,51 @@ module _ (catalog : Catalog) (graph : Graph) (instance : InstanceRows) (prefix :
     abbrev spots : List Spot
     spots = spots_along Vertex part.elements items
 
-    pub choice_means : (choice : Alternative) → IsIn choice part.alternatives → all_true_in env (choice_conditions catalog graph prefix (expansion_of path choice) spots) ≡ choice_meets path spots choice
+    pub choice_means : (choice : Alternative) → IsIn choice part.alternatives → all_true_in env (choice_conditions catalog graph prefix (expansion_of path choice) spots)
+        ≡ choice_meets path spots choice
     choice_means choice h =
-        list_all-append (true_in env) (flat_map (piece_conditions catalog graph prefix spots) (expansion_of path choice).pieces) (map (scoped_condition catalog graph prefix spots) (expansion_of path choice).conditions)
+        list_all-append (true_in env) (flat_map (piece_conditions catalog graph prefix spots) (expansion_of path choice).pieces)
+        (map (scoped_condition catalog graph prefix spots) (expansion_of path choice).conditions)
         ∙ ap₂ (λ a b. a && b)
         (sym (pieces_mean catalog graph instance prefix env rows spots valid fits shows (expansion_of path choice).edges
         (λ i low. vertex_seat part.elements items i (omega (arith, ok.sized choice h)) many) (λ i low. edge_seat part.elements items i (omega (arith, ok.sized choice h)) many)
         0 (flat_map (λ iteration. iteration.pieces) (iterations (operand_at path choice.operand).steps choice.counts)) (omega arith)
-        (ap (λ numbers. list_all (may_meet_piece graph numbers) (expansion_of path choice).pieces) (numbers_along Vertex part.elements items many) ∙ (and_parts _ _ (ok.feasible choice h)).0)))
+        (ap (λ numbers. list_all (may_meet_piece graph numbers) (expansion_of path choice).pieces) (numbers_along Vertex part.elements items many)
+        ∙ (and_parts _ _ (ok.feasible choice h)).0)))
         (sym (scoped_mean catalog graph instance prefix env rows spots valid fits shows (expansion_of path choice).conditions (ok.plain choice h)))
 
     -- the conditions of a path block say that some alternative meets and the mode keeps
-    pub part_means : (conditions : List SqlCondition) → SaysAny (alternatives_of catalog graph prefix path part spots) conditions → (walk : Walk) → places_of walk ≡ elements_at graph rows spots
+    pub part_means : (conditions : List SqlCondition) → SaysAny (alternatives_of catalog graph prefix path part spots) conditions → (walk : Walk) → places_of walk
+        ≡ elements_at graph rows spots
         → all_true_in env (conditions ++ mode_conditions catalog graph prefix path.mode spots) ≡ (list_any (choice_meets path spots) part.alternatives && keeps_mode path.mode walk)
     part_means conditions says walk is =
         list_all-append (true_in env) conditions (mode_conditions catalog graph prefix path.mode spots)
         ∙ ap₂ (λ a b. a && b)
-        (says env ∙ list_any-map (all_true_in env) (λ choice. choice_conditions catalog graph prefix (expansion_of path choice) spots) part.alternatives ∙ any-each _ _ part.alternatives choice_means)
+        (says env ∙ list_any-map (all_true_in env) (λ choice. choice_conditions catalog graph prefix (expansion_of path choice) spots) part.alternatives
+        ∙ any-each _ _ part.alternatives choice_means)
         (mode_means catalog graph instance prefix env rows spots valid fits shows path.mode walk is)
 
   laid_means : (path : CheckedPath) (part : PathBlock) (items : List ℕ) → length part.elements ≤ length items → IsPart graph path part
       → (conditions : List SqlCondition) (walk : Walk) (spots : List Spot) → spots ≡ spots_along Vertex part.elements items
-      → Shows catalog graph instance prefix env rows spots → SaysAny (alternatives_of catalog graph prefix path part spots) conditions → places_of walk ≡ elements_at graph rows spots
+      → Shows catalog graph instance prefix env rows spots → SaysAny (alternatives_of catalog graph prefix path part spots) conditions → places_of walk
+      ≡ elements_at graph rows spots
       → all_true_in env (conditions ++ mode_conditions catalog graph prefix path.mode spots) ≡ (list_any (choice_meets path spots) part.alternatives && keeps_mode path.mode walk)
   laid_means path part items many ok conditions walk spots is =
-      subst (λ (s : List Spot). Shows catalog graph instance prefix env rows s → SaysAny (alternatives_of catalog graph prefix path part s) conditions → places_of walk ≡ elements_at graph rows s
+      subst (λ (s : List Spot). Shows catalog graph instance prefix env rows s → SaysAny (alternatives_of catalog graph prefix path part s) conditions → places_of walk
+      ≡ elements_at graph rows s
       → all_true_in env (conditions ++ mode_conditions catalog graph prefix path.mode s) ≡ (list_any (choice_meets path s) part.alternatives && keeps_mode path.mode walk))
       (sym is) (λ shows says placed. part_means path part items many ok shows conditions says walk placed)
 
-  shows_among : (some all : List Spot) → ((spot : Spot) → IsIn spot some → IsIn spot all) → Shows catalog graph instance prefix env rows all → Shows catalog graph instance prefix env rows some
+  shows_among : (some all : List Spot) → ((spot : Spot) → IsIn spot some → IsIn spot all) → Shows catalog graph instance prefix env rows all
+      → Shows catalog graph instance prefix env rows some
   shows_among some all among shows = record {
     elements = λ spot h. shows.elements spot (among spot h);
     members = λ spot h. shows.members spot (among spot h);
     columns = λ spot h. shows.columns spot (among spot h);
   }
 
-  last_means : (tags : List Tags) (spots : List Spot) → Shows catalog graph instance prefix env rows spots → (condition : Option Condition) → ((c : Condition) → condition ≡ Some c → EachLeaf IsPlain c)
+  last_means : (tags : List Tags) (spots : List Spot) → Shows catalog graph instance prefix env rows spots → (condition : Option Condition)
+      → ((c : Condition) → condition ≡ Some c → EachLeaf IsPlain c)
       → all_true_in env (where_for catalog graph prefix tags spots condition) ≡ meets_last graph instance (held_by tags (elements_at graph rows spots)) condition
   last_means tags spots shows None plain = refl
   last_means tags spots shows (Some condition) plain =
@@ -158,7 +168,8 @@ module _ (catalog : Catalog) (graph : Graph) (instance : InstanceRows) (prefix :
 
     -- what rows must be for a path block: some alternative reads what they stand for, and the mode keeps it
     abbrev pub is_laid : Laid → Bool
-    is_laid laid = list_any (λ choice. reads_at graph instance laid.path choice (elements_at graph rows laid.spots)) laid.part.alternatives && keeps_mode laid.path.mode (walk_of laid)
+    is_laid laid = list_any (λ choice. reads_at graph instance laid.path choice (elements_at graph rows laid.spots)) laid.part.alternatives && keeps_mode laid.path.mode
+        (walk_of laid)
 
     abbrev pub is_block : Bool
     is_block =
@@ -189,7 +200,8 @@ module _ (catalog : Catalog) (graph : Graph) (instance : InstanceRows) (prefix :
       sized : (laid : Laid) → IsIn laid parts → length laid.part.tags ≡ length (elements_at graph rows laid.spots)
       sized laid h =
           let ok = laid_all laid h in
-          ok.tags_many ∙ ap length (sym (numbers_along Vertex laid.part.elements ok.items ok.many)) ∙ length-map (spots_along Vertex laid.part.elements ok.items) (λ spot. spot.element)
+          ok.tags_many ∙ ap length (sym (numbers_along Vertex laid.part.elements ok.items ok.many)) ∙ length-map (spots_along Vertex laid.part.elements ok.items)
+          (λ spot. spot.element)
           ∙ ap length (sym ok.spots_are) ∙ sym (length-map laid.spots (standing graph rows))
 
       -- where the places of each singleton agree, a choice reads what it meets
@@ -217,10 +229,12 @@ module _ (catalog : Catalog) (graph : Graph) (instance : InstanceRows) (prefix :
       -- the conditions of a block are True exactly where some alternative of each path reads what the rows stand for
       pub block_means : all_true_in env (block_conditions catalog graph prefix names parts condition) ≡ is_block
       block_means =
-          list_all-append (true_in env) (flat_map of_part parts) (sharing_conditions catalog graph prefix names (laid_tags parts) (laid_spots parts) ++ where_for catalog graph prefix (laid_tags parts) (laid_spots parts) condition)
+          list_all-append (true_in env) (flat_map of_part parts) (sharing_conditions catalog graph prefix names (laid_tags parts) (laid_spots parts)
+          ++ where_for catalog graph prefix (laid_tags parts) (laid_spots parts) condition)
           ∙ ap₂ (λ a b. a && b)
           (list_all-flat_map (true_in env) of_part parts ∙ all-each _ _ parts one_means)
-          (list_all-append (true_in env) (sharing_conditions catalog graph prefix names (laid_tags parts) (laid_spots parts)) (where_for catalog graph prefix (laid_tags parts) (laid_spots parts) condition)
+          (list_all-append (true_in env) (sharing_conditions catalog graph prefix names (laid_tags parts) (laid_spots parts))
+          (where_for catalog graph prefix (laid_tags parts) (laid_spots parts) condition)
           ∙ ap₂ (λ a b. a && b)
           (sharing_means catalog graph instance prefix env rows (laid_spots parts) valid fits shows names (laid_tags parts) numbers kinds)
           (last_means (laid_tags parts) (laid_spots parts) shows condition plain))

@@ -1,5 +1,6 @@
 -- A candidate is laid out, with an item for each place.
-use Rattle.std.proofs.Common.{◌≡◌, ℕ, zero, suc, ◌+◌, ◌≤◌, ◌<◌, ◌^◌, true, List, [], ◌∷◌, ◌++◌, map, length, take, refl, sym, ap, ap₂, subst, ◌∙◌, inl, inr, arith, nat_eq, None, Some}
+use Rattle.std.proofs.Common.{◌≡◌, ℕ, zero, suc, ◌+◌, ◌≤◌, ◌<◌, ◌^◌, true, List, [], ◌∷◌, ◌++◌, map, length, take, refl, sym, ap, ap₂, subst, ◌∙◌, inl, inr, arith, nat_eq, None}
+use Rattle.std.proofs.Common.{Some}
 use Rattle.std.specs.List.{AllZip, AllByRecursion, range_with_len}
 use Rattle.std.proofs.lemmas.List.FromFn.{length-range_with_len}
 use Rattle.pgq_base.specs.declared.value.Value.TheVariants.{Number}
@@ -41,7 +42,8 @@ own_items : (earlier : List (Tags × ℕ)) (next : ℕ) (tags : List Tags) → p
 own_items earlier next [] = refl
 own_items earlier next (t ∷ ts) =
     let after : suc next ≡ next + 1 = omega arith in
-    ap (λ o. elim o [ Some item ↦ item ∷ plan_after [] (earlier ++ (t, item) ∷ []) next ts | None ↦ next ∷ plan_after [] (earlier ++ (t, next) ∷ []) (suc next) ts ]) (none_shared t earlier)
+    ap (λ o. elim o [ Some item ↦ item ∷ plan_after [] (earlier ++ (t, item) ∷ []) next ts | None ↦ next ∷ plan_after [] (earlier ++ (t, next) ∷ []) (suc next) ts ])
+    (none_shared t earlier)
     ∙ ap (λ l. next ∷ l) (own_items (earlier ++ (t, next) ∷ []) (suc next) ts ∙ ap (λ n. range_with_len n (length ts)) after)
 
 take_whole : {X : Type 0} (xs : List X) (n : ℕ) → n ≡ length xs → take n xs ≡ xs
@@ -50,8 +52,10 @@ take_whole [] (suc n) h = absurd (omega (arith, h))
 take_whole (x ∷ xs) zero h = absurd (omega (arith, h))
 take_whole (x ∷ xs) (suc n) h = ap (λ l. x ∷ l) (take_whole xs n (omega (arith, h)))
 
-module _ (catalog : Catalog) (graph : Graph) (valid : IsValidGraph catalog graph) (instance : InstanceRows) (fits : Fits catalog instance) (query : CheckedQuery) (ok : IsLowerable graph query)
-    (combined : Combining) (combines : IsCombining combined) (path : CheckedPath) (among : IsIn path query.paths) (place : ℕ) (other : PathBlock) (there : IsIn other (path_blocks graph place path))
+module _ (catalog : Catalog) (graph : Graph) (valid : IsValidGraph catalog graph) (instance : InstanceRows) (fits : Fits catalog instance) (query : CheckedQuery)
+    (ok : IsLowerable graph query)
+    (combined : Combining) (combines : IsCombining combined) (path : CheckedPath) (among : IsIn path query.paths) (place : ℕ) (other : PathBlock)
+    (there : IsIn other (path_blocks graph place path))
     (few : length other.elements < 2 ^ 32) where
   abbrev own : Laid
   own = candidate_laid catalog graph combined path other
@@ -110,7 +114,8 @@ module _ (catalog : Catalog) (graph : Graph) (valid : IsValidGraph catalog graph
 
   plain_column : (output : Output) → IsIn output (one_column ∷ []) → EachLeaf IsPlain output.value
   plain_column output (inr h) = absurd h
-  plain_column output (inl e) = subst (λ (o : Output). EachLeaf IsPlain o.value) e (subst (AllByRecursion IsPlain) (sym (leaves.literal (Number (Rattle.std.specs.Prelude.pos 1)))) tt)
+  plain_column output (inl e) = subst (λ (o : Output). EachLeaf IsPlain o.value) e
+      (subst (AllByRecursion IsPlain) (sym (leaves.literal (Number (Rattle.std.specs.Prelude.pos 1)))) tt)
 
   pub candidate_is_laid : IsBlockLaid catalog graph 83 (singletons_of path) (own ∷ []) None (one_column ∷ [])
   candidate_is_laid = record {

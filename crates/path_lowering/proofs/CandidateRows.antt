@@ -36,11 +36,13 @@ module _ (catalog : Catalog) (graph : Graph) (instance : InstanceRows) (combined
   many = let n = length-range_with_len 0 (length other.elements) in omega (Rattle.std.proofs.Common.arith, n)
 
   pub tables_same : combinations (map (λ spot. rows_of instance (element_at graph spot)) (own.spots ++ [])) ≡ tuples graph instance other.elements
-  tables_same = ap (λ spots. combinations (map (λ spot. rows_of instance (element_at graph spot)) spots)) (append-nil own.spots) ∙ ap combinations (tables_are graph instance other.elements (numbers_below (length other.elements)) fitting.numbers many)
+  tables_same = ap (λ spots. combinations (map (λ spot. rows_of instance (element_at graph spot)) spots)) (append-nil own.spots)
+      ∙ ap combinations (tables_are graph instance other.elements (numbers_below (length other.elements)) fitting.numbers many)
 
   module _ (rows : List RowValues) (there : IsIn rows (tuples graph instance other.elements)) where
     long : length rows ≡ length other.elements
-    long = picks_many graph instance rows (tables_of graph instance other.elements) (from_combinations rows (tables_of graph instance other.elements) there) ∙ tables_many graph instance other.elements fitting.numbers
+    long = picks_many graph instance rows (tables_of graph instance other.elements) (from_combinations rows (tables_of graph instance other.elements) there)
+        ∙ tables_many graph instance other.elements fitting.numbers
 
     abbrev walk : Walk
     walk = walk_with graph other.elements rows

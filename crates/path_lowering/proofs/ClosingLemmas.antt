@@ -48,7 +48,8 @@ module _ (catalog : Catalog) (instance : InstanceRows) where
       (filter-each _ (λ tuple. false) (tuples_under catalog instance none.from []) (λ tuple h. never_holds tuple) ∙ filter-none (tuples_under catalog instance none.from []))
 
   bag_of : (graph : Graph) (prefix : ℕ) (query : CheckedQuery) (make : Block → Select) (those : List Block)
-      → flat_map (λ select. select_rows catalog instance select []) (or_none (select_of_none catalog graph prefix query.columns) (map make those)) ≡ flat_map (λ block. select_rows catalog instance (make block) []) those
+      → flat_map (λ select. select_rows catalog instance select []) (or_none (select_of_none catalog graph prefix query.columns) (map make those))
+      ≡ flat_map (λ block. select_rows catalog instance (make block) []) those
   bag_of graph prefix query make [] = ap (λ l. l ++ []) (none_rows graph prefix query)
   bag_of graph prefix query make (b ∷ bs) = ap (λ l. select_rows catalog instance (make b) [] ++ l) (each bs)
     where
@@ -56,7 +57,8 @@ module _ (catalog : Catalog) (instance : InstanceRows) where
       each [] = refl
       each (c ∷ cs) = ap (λ l. select_rows catalog instance (make c) [] ++ l) (each cs)
 
-  module _ (query : CheckedQuery) (fitting : IsFitting catalog (graph_at catalog query.graph) instance) (ok : IsLowerable (graph_at catalog query.graph) query) (unselected : IsUnselected query)
+  module _ (query : CheckedQuery) (fitting : IsFitting catalog (graph_at catalog query.graph) instance) (ok : IsLowerable (graph_at catalog query.graph) query)
+      (unselected : IsUnselected query)
       (combined : Combining) (combines : IsCombining combined) where
     abbrev graph : Graph
     graph = graph_at catalog query.graph

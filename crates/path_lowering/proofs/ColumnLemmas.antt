@@ -34,7 +34,8 @@ module _ (catalog : Catalog) (graph : Graph) (prefix : ℕ) (env : ColumnLeaf �
   module _ (a b : Spot) (x y : RowValues) (shown_a : Shown a x) (shown_b : Shown b y) where
     one_pair : (op : Comparison) (c d : ℕ) → c < length (table_at catalog (element_at graph a).table).columns → d < length (table_at catalog (element_at graph b).table).columns
         → true_in env (Compare op (Leaf (leaf_of catalog graph prefix a c)) (Leaf (leaf_of catalog graph prefix b d))) ≡ is_true (compare_by op (value_at x c) (value_at y d))
-    one_pair op c d p q = true_Compare env op (leaf_of catalog graph prefix a c) (leaf_of catalog graph prefix b d) ∙ ap₂ (λ v w. is_true (compare_by op v w)) (shown_a c p) (shown_b d q)
+    one_pair op c d p q = true_Compare env op (leaf_of catalog graph prefix a c) (leaf_of catalog graph prefix b d) ∙ ap₂ (λ v w. is_true (compare_by op v w)) (shown_a c p)
+        (shown_b d q)
 
     pub all_equal : (cs ds : List ℕ) → length cs ≡ length ds → AreThere a cs → AreThere b ds → AreKnown y ds
         → all_true_in env (compared_columns catalog graph prefix Equal a cs b ds) ≡ same_values (values_at cs x) (values_at ds y)
@@ -52,7 +53,8 @@ module _ (catalog : Catalog) (graph : Graph) (prefix : ℕ) (env : ColumnLeaf �
     some_differs [] (d ∷ ds) same there_a there_b known_a known_b = absurd (omega arith)
     some_differs (c ∷ cs) [] same there_a there_b known_a known_b = absurd (omega arith)
     some_differs (c ∷ cs) (d ∷ ds) same there_a there_b known_a known_b =
-        ap₂ (λ s t. s || t) (one_pair NotEqual c d (there_a c (inl refl)) (there_b d (inl refl)) ∙ differs (value_at x c) (value_at y d) (known_a c (inl refl)) (known_b d (inl refl)))
+        ap₂ (λ s t. s || t) (one_pair NotEqual c d (there_a c (inl refl)) (there_b d (inl refl)) ∙ differs (value_at x c) (value_at y d) (known_a c (inl refl))
+        (known_b d (inl refl)))
         (some_differs cs ds (omega arith) (λ e k. there_a e (inr k)) (λ e k. there_b e (inr k)) (λ e k. known_a e (inr k)) (λ e k. known_b e (inr k)))
         ∙ sym (not_and (same_value (value_at x c) (value_at y d)) (same_values (values_at cs x) (values_at ds y)))
         ∙ ap not (sym (same_cons (value_at x c) (value_at y d) (values_at cs x) (values_at ds y)))

@@ -1,5 +1,6 @@
 -- When a condition over properties, and that over the columns for which they stand, are True.
-use Rattle.std.proofs.Common.{◌≡◌, ℕ, ◌<◌, Bool, true, false, ◌&&◌, cond, List, [], ◌∷◌, map, length, refl, sym, ap, ap₂, subst, ◌∙◌, inl, inr, Option, None, Some, option_map, bytes_eq}
+use Rattle.std.proofs.Common.{◌≡◌, ℕ, ◌<◌, Bool, true, false, ◌&&◌, cond, List, [], ◌∷◌, map, length, refl, sym, ap, ap₂, subst, ◌∙◌, inl, inr, Option, None, Some, option_map}
+use Rattle.std.proofs.Common.{bytes_eq}
 use Rattle.std.specs.Prelude.{slice_get}
 use Rattle.std.specs.List.{list_all, list_any}
 use Rattle.std.proofs.lemmas.Option.{slice_get-map}
@@ -84,10 +85,14 @@ element_stands graph Edge number row = refl
 module _ (catalog : Catalog) (graph : Graph) (instance : InstanceRows) (prefix : ℕ) (env : ColumnLeaf → Value) (rows : List RowValues) (spots : List Spot)
     (valid : IsValidGraph catalog graph) (fits : Fits catalog instance) (shows : Shows catalog graph instance prefix env rows spots) where
   row_stands : (spot : Spot) → IsIn spot spots → row_of graph instance (standing graph rows spot) ≡ row_at rows spot
-  row_stands spot h = by_kind spot.kind spot.element (row_at rows spot) (row_found catalog instance fits (element_at graph spot) (spot_valid catalog graph instance prefix env rows spots valid fits shows spot h) (row_at rows spot) (shows.members spot h))
+  row_stands spot h = by_kind spot.kind spot.element (row_at rows spot)
+      (row_found catalog instance fits (element_at graph spot) (spot_valid catalog graph instance prefix env rows spots valid fits shows spot h) (row_at rows spot)
+      (shows.members spot h))
     where
       by_kind : (kind : Kind) (number : ℕ) (row : RowValues)
-          → Rattle.graph_meaning.specs.View.row_with (element_of_kind graph kind number).key (Rattle.pgq_base.specs.Instances.values_at (element_of_kind graph kind number).key row) (Rattle.graph_meaning.specs.View.rows_of instance (element_of_kind graph kind number)) ≡ row
+          → Rattle.graph_meaning.specs.View.row_with (element_of_kind graph kind number).key
+          (Rattle.pgq_base.specs.Instances.values_at (element_of_kind graph kind number).key row)
+          (Rattle.graph_meaning.specs.View.rows_of instance (element_of_kind graph kind number)) ≡ row
           → row_of graph instance (of_row graph kind number row) ≡ row
       by_kind Vertex number row e = e
       by_kind Edge number row e = e
@@ -96,11 +101,17 @@ module _ (catalog : Catalog) (graph : Graph) (instance : InstanceRows) (prefix :
       → value_in env (lowered_property catalog graph prefix spot leaf) ≡ property_value graph instance (standing graph rows spot) leaf.property
   property_means spot h leaf =
       go (column_of (element_at graph spot) leaf.property) refl
-      ∙ sym (ap (λ (element : Element). elim (column_of element leaf.property) [ None ↦ value.Null | Some column ↦ value_at (row_of graph instance (standing graph rows spot)) column ])
+      ∙ sym (ap (λ (element : Element). elim (column_of element leaf.property) [
+        | None ↦ value.Null
+        | Some column ↦ value_at (row_of graph instance (standing graph rows spot)) column
+      ])
       (element_stands graph spot.kind spot.element (row_at rows spot)))
     where
       go : (o : Option ℕ) → column_of (element_at graph spot) leaf.property ≡ o
-          → value_in env (elim o [ None ↦ Rattle.expr_tree.specs.declared.tree.Expr.TheVariants.Null leaf.class | Some column ↦ Rattle.expr_tree.specs.declared.tree.Expr.TheVariants.Leaf (leaf_of catalog graph prefix spot column) ])
+          → value_in env (elim o [
+            | None ↦ Rattle.expr_tree.specs.declared.tree.Expr.TheVariants.Null leaf.class
+            | Some column ↦ Rattle.expr_tree.specs.declared.tree.Expr.TheVariants.Leaf (leaf_of catalog graph prefix spot column)
+          ])
           ≡ elim o [ None ↦ value.Null | Some column ↦ value_at (row_of graph instance (standing graph rows spot)) column ]
       go None e = (values env).null leaf.class
       go (Some column) e =
@@ -128,9 +139,13 @@ module _ (catalog : Catalog) (graph : Graph) (instance : InstanceRows) (prefix :
     leaf_means : (leaf : PropertyLeaf) → IsPlain leaf → value_in env (lowered_leaf catalog graph prefix holding leaf) ≡ leaf_value graph instance held leaf
     leaf_means leaf plain =
         held_means leaf
-        ∙ sym (ap (λ t. elim t [ None ↦ held_value graph instance (held leaf.variable) leaf.property | Some test ↦ value.Truth (Rattle.graph_meaning.specs.Conditions.passes_test held test) ]) plain)
+        ∙ sym (ap (λ t. elim t [
+          | None ↦ held_value graph instance (held leaf.variable) leaf.property
+          | Some test ↦ value.Truth (Rattle.graph_meaning.specs.Conditions.passes_test held test)
+        ]) plain)
 
-    pub value_means : (condition : Condition) → EachLeaf IsPlain condition → value_in env (lowered catalog graph prefix holding condition) ≡ value_in (leaf_value graph instance held) condition
+    pub value_means : (condition : Condition) → EachLeaf IsPlain condition → value_in env (lowered catalog graph prefix holding condition)
+        ≡ value_in (leaf_value graph instance held) condition
     value_means condition plain =
         mapped_value (lowered_leaf catalog graph prefix holding) env (leaf_value graph instance held) condition
         (each_implies IsPlain (λ l. value_in env (lowered_leaf catalog graph prefix holding l) ≡ leaf_value graph instance held l) leaf_means (leaves_in condition) plain)
@@ -148,7 +163,8 @@ module _ (catalog : Catalog) (graph : Graph) (instance : InstanceRows) (prefix :
       inside None spot e = cc
       inside (Some place) spot e = got_in spots place spot e
 
-      same : (o : Option ℕ) → elim o [ None ↦ None | Some place ↦ slice_get (elements_at graph rows spots) place ] ≡ option_map (standing graph rows) (elim o [ None ↦ None | Some place ↦ slice_get spots place ])
+      same : (o : Option ℕ) → elim o [ None ↦ None | Some place ↦ slice_get (elements_at graph rows spots) place ]
+          ≡ option_map (standing graph rows) (elim o [ None ↦ None | Some place ↦ slice_get spots place ])
       same None = refl
       same (Some place) = slice_get-map (standing graph rows) spots place
 
@@ -164,5 +180,6 @@ module _ (catalog : Catalog) (graph : Graph) (instance : InstanceRows) (prefix :
   scoped_mean [] plain = refl
   scoped_mean (scoped ∷ more) plain =
       ap₂ (λ a b. a && b)
-      (sym (condition_means (spot_in scoped.scope spots) (held_in scoped.scope (elements_at graph rows spots)) (follows_scope scoped.scope) scoped.condition (plain scoped (inl refl))))
+      (sym (condition_means (spot_in scoped.scope spots) (held_in scoped.scope (elements_at graph rows spots)) (follows_scope scoped.scope) scoped.condition
+      (plain scoped (inl refl))))
       (scoped_mean more (λ s k. plain s (inr k)))

@@ -105,7 +105,8 @@ module _ (catalog : Catalog) (graph : Graph) (instance : InstanceRows) (prefix :
     below = subst (λ k. edge.element < count_of_kind graph k) edge_kind (shows.elements edge p)
 
     edge_in : IsIn there graph.edges
-    edge_in = in_at graph.edges edge.element (record { element = no_element; source = record { columns = []; vertex = 0 }; destination = record { columns = []; vertex = 0 } }) below
+    edge_in = in_at graph.edges edge.element (record { element = no_element; source = record { columns = []; vertex = 0 }; destination = record { columns = []; vertex = 0 } })
+        below
 
     element_is : element_at graph edge ≡ there.element
     element_is = ap (λ k. element_of_kind graph k edge.element) edge_kind
@@ -124,8 +125,10 @@ module _ (catalog : Catalog) (graph : Graph) (instance : InstanceRows) (prefix :
         ∙ ap₂ (λ a b. a && b)
         (end_means edge from there.element there.source p q element_is from_kind (valid.sources there edge_in))
         (end_means edge to there.element there.destination p r element_is to_kind (valid.destinations there edge_in))
-        ∙ sym (ap (λ y. leads (edge_of graph edge.element (row_at rows edge)) (Some y) (Some (standing graph rows to))) (ap (λ k. of_row graph k from.element (row_at rows from)) from_kind)
-        ∙ ap (λ y. leads (edge_of graph edge.element (row_at rows edge)) (Some (AVertex (vertex_of graph from.element (row_at rows from)))) (Some y)) (ap (λ k. of_row graph k to.element (row_at rows to)) to_kind))
+        ∙ sym (ap (λ y. leads (edge_of graph edge.element (row_at rows edge)) (Some y) (Some (standing graph rows to)))
+        (ap (λ k. of_row graph k from.element (row_at rows from)) from_kind)
+        ∙ ap (λ y. leads (edge_of graph edge.element (row_at rows edge)) (Some (AVertex (vertex_of graph from.element (row_at rows from)))) (Some y))
+        (ap (λ k. of_row graph k to.element (row_at rows to)) to_kind))
 
     -- the key equalities of an edge with its neighbours say that it joins them in its direction
     pub edge_means : (direction : Direction) (left right : Spot) → IsIn left spots → IsIn right spots → left.kind ≡ Vertex → right.kind ≡ Vertex

@@ -36,12 +36,14 @@ module _ (graph : Graph) where
       last_after v r ns rows are.1 (omega (arith, long))
       ∙ ap₂ (λ m n. vertex_of graph (slice_index_or (v ∷ ns) m 0) (slice_index_or (r ∷ rows) n [])) (sym (less_one (length ns))) (sym (less_one (length rows)))
 
-  first_is : (ns : List ℕ) (rows : List RowValues) → AreNumbers graph ns → length rows ≡ length ns → (walk_with graph ns rows).start ≡ vertex_of graph (slice_index_or ns 0 0) (slice_index_or rows 0 [])
+  first_is : (ns : List ℕ) (rows : List RowValues) → AreNumbers graph ns → length rows ≡ length ns → (walk_with graph ns rows).start
+      ≡ vertex_of graph (slice_index_or ns 0 0) (slice_index_or rows 0 [])
   first_is [] rows are long = absurd are
   first_is (v ∷ ns) [] are long = absurd (omega (arith, long))
   first_is (v ∷ ns) (r ∷ rows) are long = refl
 
-  one_end : (a b : ℕ) (x y : RowValues) → a ≡ b → same_identity (vertex_of graph a x) (vertex_of graph b y) ≡ same_values (values_at (vertex_element graph a).key x) (values_at (vertex_element graph a).key y)
+  one_end : (a b : ℕ) (x y : RowValues) → a ≡ b → same_identity (vertex_of graph a x) (vertex_of graph b y) ≡ same_values (values_at (vertex_element graph a).key x)
+      (values_at (vertex_element graph a).key y)
   one_end a b x y e =
       ap₂ (λ s n. s && same_values (values_at (vertex_element graph a).key x) (values_at (vertex_element graph n).key y)) (eq-eqb a b e) (sym e)
 
@@ -49,18 +51,22 @@ module _ (graph : Graph) where
   pub ends_are : (ns ms : List ℕ) (own rows : List RowValues) → AreNumbers graph ns → AreNumbers graph ms → length own ≡ length ns → length rows ≡ length ms
       → slice_index_or ns 0 0 ≡ slice_index_or ms 0 0 → slice_index_or ns (length ns - 1) 0 ≡ slice_index_or ms (length ms - 1) 0
       → same_ends (walk_with graph ns own) (walk_with graph ms rows)
-      ≡ (same_values (values_at (vertex_element graph (slice_index_or ns 0 0)).key (slice_index_or own 0 [])) (values_at (vertex_element graph (slice_index_or ns 0 0)).key (slice_index_or rows 0 []))
+      ≡ (same_values (values_at (vertex_element graph (slice_index_or ns 0 0)).key (slice_index_or own 0 []))
+      (values_at (vertex_element graph (slice_index_or ns 0 0)).key (slice_index_or rows 0 []))
       && same_values (values_at (vertex_element graph (slice_index_or ns (length ns - 1) 0)).key (slice_index_or own (length own - 1) []))
       (values_at (vertex_element graph (slice_index_or ns (length ns - 1) 0)).key (slice_index_or rows (length rows - 1) [])))
   ends_are ns ms own rows a b p q first last =
       ap₂ (λ s t. s && t)
-      (ap₂ same_identity (first_is ns own a p) (first_is ms rows b q) ∙ one_end (slice_index_or ns 0 0) (slice_index_or ms 0 0) (slice_index_or own 0 []) (slice_index_or rows 0 []) first)
+      (ap₂ same_identity (first_is ns own a p) (first_is ms rows b q) ∙ one_end (slice_index_or ns 0 0) (slice_index_or ms 0 0) (slice_index_or own 0 [])
+      (slice_index_or rows 0 []) first)
       (ap₂ same_identity (last_is ns own a p) (last_is ms rows b q)
-      ∙ one_end (slice_index_or ns (length ns - 1) 0) (slice_index_or ms (length ms - 1) 0) (slice_index_or own (length own - 1) []) (slice_index_or rows (length rows - 1) []) last)
+      ∙ one_end (slice_index_or ns (length ns - 1) 0) (slice_index_or ms (length ms - 1) 0) (slice_index_or own (length own - 1) []) (slice_index_or rows (length rows - 1) [])
+      last)
 
   -- the elements of the first and the last place
   end_after : (v a : ℕ) (ns items : List ℕ) → AreNumbersAfter graph ns → length ns ≤ length items
-      → element_at graph (spot_at (record { kind = Vertex; element = v; item = a } ∷ spots_along Edge ns items) (length ns)) ≡ vertex_element graph (slice_index_or (v ∷ ns) (length ns) 0)
+      → element_at graph (spot_at (record { kind = Vertex; element = v; item = a } ∷ spots_along Edge ns items) (length ns))
+      ≡ vertex_element graph (slice_index_or (v ∷ ns) (length ns) 0)
   end_after v a [] items are many = refl
   end_after v a (e ∷ []) items are many = absurd are
   end_after v a (e ∷ w ∷ ns) [] are many = absurd (omega (arith, many))
@@ -72,17 +78,21 @@ module _ (graph : Graph) where
   last_element [] items are many = absurd are
   last_element (v ∷ ns) [] are many = absurd (omega (arith, many))
   last_element (v ∷ ns) (a ∷ items) are many =
-      subst (λ n. element_at graph (spot_at (spots_along Vertex (v ∷ ns) (a ∷ items)) n) ≡ vertex_element graph (slice_index_or (v ∷ ns) n 0)) (sym (less_one (length ns))) (end_after v a ns items are.1 (omega (arith, many)))
+      subst (λ n. element_at graph (spot_at (spots_along Vertex (v ∷ ns) (a ∷ items)) n) ≡ vertex_element graph (slice_index_or (v ∷ ns) n 0)) (sym (less_one (length ns)))
+      (end_after v a ns items are.1 (omega (arith, many)))
 
-  pub first_element : (ns items : List ℕ) → AreNumbers graph ns → length ns ≤ length items → element_at graph (spot_at (spots_along Vertex ns items) 0) ≡ vertex_element graph (slice_index_or ns 0 0)
+  pub first_element : (ns items : List ℕ) → AreNumbers graph ns → length ns ≤ length items → element_at graph (spot_at (spots_along Vertex ns items) 0)
+      ≡ vertex_element graph (slice_index_or ns 0 0)
   first_element [] items are many = absurd are
   first_element (v ∷ ns) [] are many = absurd (omega (arith, many))
   first_element (v ∷ ns) (a ∷ items) are many = refl
 
   -- so the keys of a candidate's ends say that the walks have the same ends
-  pub ends_meet : (ns ms items : List ℕ) (own rows : List RowValues) → AreNumbers graph ns → AreNumbers graph ms → length own ≡ length ns → length rows ≡ length ms → length ns ≤ length items
+  pub ends_meet : (ns ms items : List ℕ) (own rows : List RowValues) → AreNumbers graph ns → AreNumbers graph ms → length own ≡ length ns → length rows ≡ length ms
+      → length ns ≤ length items
       → slice_index_or ns 0 0 ≡ slice_index_or ms 0 0 → slice_index_or ns (length ns - 1) 0 ≡ slice_index_or ms (length ms - 1) 0
-      → same_ends (walk_with graph ns own) (walk_with graph ms rows) ≡ has_ends_of graph (spots_along Vertex ns items) (slice_index_or rows 0 []) (slice_index_or rows (length rows - 1) []) own
+      → same_ends (walk_with graph ns own) (walk_with graph ms rows) ≡ has_ends_of graph (spots_along Vertex ns items) (slice_index_or rows 0 [])
+      (slice_index_or rows (length rows - 1) []) own
   ends_meet ns ms items own rows a b p q many first last =
       let spots = spots_along Vertex ns items in
       let size : last_place spots ≡ length ns - 1 = ap (λ n. n - 1) (spots_many Vertex ns items many) in

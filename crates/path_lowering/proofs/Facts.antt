@@ -1,5 +1,6 @@
 -- What a valid catalog and an instance that fits say of the rows of an element's table.
-use Rattle.std.proofs.Common.{◌≡◌, ℕ, zero, suc, ◌<◌, Bool, true, false, not, ◌||◌, cond, List, [], ◌∷◌, map, filter, length, get_or, refl, sym, ap, ap₂, subst, ◌∙◌, inl, inr, arith, true≢false}
+use Rattle.std.proofs.Common.{◌≡◌, ℕ, zero, suc, ◌<◌, Bool, true, false, not, ◌||◌, cond, List, [], ◌∷◌, map, filter, length, get_or, refl, sym, ap, ap₂, subst, ◌∙◌, inl, inr}
+use Rattle.std.proofs.Common.{arith, true≢false}
 use Rattle.pgq_base.specs.declared.value.Value.TheVariants.{Null}
 use Rattle.pgq_base.specs.Instances.{RowValues, TableRows, InstanceRows, value_at, values_at, same_values}
 use Rattle.pgq_base.proofs.ValueOrder.{same_values_decides}
@@ -62,7 +63,8 @@ told_apart {A} p f (z ∷ zs) once x y h k e kept = go (λ o m n. told_apart p f
     go more (inr h) (inl k) = absurd (none (ap (λ w. p (f w)) k ∙ ap p (sym e) ∙ kept) (subst (λ v. IsIn v (filter p (map f zs))) (e ∙ sym (ap f k)) (there x h kept)))
 
 -- a row of a table has a value of each column's type
-pub typed_at : (columns : List Column) (row : RowValues) → IsRowOf columns row → (place : ℕ) (d : Column) → place < length columns → IsValueOf (get_or columns place d) (get_or row place Null)
+pub typed_at : (columns : List Column) (row : RowValues) → IsRowOf columns row → (place : ℕ) (d : Column) → place < length columns
+    → IsValueOf (get_or columns place d) (get_or row place Null)
 typed_at [] [] h place d l = absurd (omega arith)
 typed_at [] (v ∷ vs) h place d l = absurd h
 typed_at (c ∷ cs) [] h place d l = absurd h
@@ -117,7 +119,8 @@ module _ (catalog : Catalog) (instance : InstanceRows) (fits : Fits catalog inst
             → (IsIn row xs → row_with element.key (values_at element.key row) xs ≡ row)
             → cond b x (row_with element.key (values_at element.key row) xs) ≡ row
         pick true e k more = sym (key_tells row x m (among x (inl refl)) ((same_values_decides _ _).0 e))
-        pick false e (inl k) more = absurd (true≢false (sym ((same_values_decides (values_at element.key row) (values_at element.key x)).1 (ap (values_at element.key) (sym k))) ∙ e))
+        pick false e (inl k) more = absurd (true≢false (sym ((same_values_decides (values_at element.key row) (values_at element.key x)).1 (ap (values_at element.key) (sym k)))
+            ∙ e))
         pick false e (inr k) more = more k
 
     -- so the row of its key values is the row itself

@@ -7,6 +7,7 @@ use Rattle.path_lowering.specs.declared.spots.Spot.{Spot}
 use Rattle.path_lowering.specs.Emitted.{spot_by}
 use Rattle.path_lowering.proofs.ConditionLemmas.{tagged_in, first_in}
 
-pub holder_there : (tags : List Tags) (spots : List Spot) (name : List ℕ) (P : Spot → Type 0) → ((spot : Spot) → IsIn spot spots → P spot) → (o : Option Spot) → o ≡ spot_by tags spots name → IfSome o P
+pub holder_there : (tags : List Tags) (spots : List Spot) (name : List ℕ) (P : Spot → Type 0) → ((spot : Spot) → IsIn spot spots → P spot) → (o : Option Spot) → o
+    ≡ spot_by tags spots name → IfSome o P
 holder_there tags spots name P all None is = tt
 holder_there tags spots name P all (Some spot) is = all spot (tagged_in name tags spots spot (first_in (tagged name tags spots) spot (sym is)))

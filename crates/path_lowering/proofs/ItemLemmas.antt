@@ -1,5 +1,6 @@
 -- Rows for FROM items that several places share are the rows for all places that agree where places share an item.
-use Rattle.std.proofs.Common.{◌≡◌, ℕ, suc, ◌+◌, ◌<◌, Bool, true, false, ◌&&◌, cond, List, [], ◌∷◌, ◌++◌, map, filter, flat_map, length, get_or, refl, sym, ap, ap₂, subst, ◌∙◌, inl, inr, nat_eq, arith, append_assoc, Decides}
+use Rattle.std.proofs.Common.{◌≡◌, ℕ, suc, ◌+◌, ◌<◌, Bool, true, false, ◌&&◌, cond, List, [], ◌∷◌, ◌++◌, map, filter, flat_map, length, get_or, refl, sym, ap, ap₂, subst, ◌∙◌}
+use Rattle.std.proofs.Common.{inl, inr, nat_eq, arith, append_assoc, Decides}
 use Rattle.std.proofs.lemmas.List.{length-append}
 use Rattle.std.proofs.Math.ListN.{get_or-append}
 use Rattle.std.proofs.Math.Seq.{get_or-append_seam}
@@ -90,7 +91,8 @@ module _ {X : Type 0} (same : X → X → Bool) (decides : (x y : X) → Decides
 
     -- the place begins an item: a row for it is chosen
     new_step : nat_eq place.0 (length chosen) ≡ true
-        → ((row : X) → IsIn row place.1 → map (spread (chosen ++ row ∷ []) places) (combinations (item_tables (length (chosen ++ row ∷ [])) places)) ≡ filter (agrees (chosen ++ row ∷ []) places) rest_rows)
+        → ((row : X) → IsIn row place.1 → map (spread (chosen ++ row ∷ []) places) (combinations (item_tables (length (chosen ++ row ∷ [])) places))
+        ≡ filter (agrees (chosen ++ row ∷ []) places) rest_rows)
         → map (spread chosen (place ∷ places)) (combinations (item_tables (length chosen) (place ∷ places)))
         ≡ filter (agrees chosen (place ∷ places)) (flat_map (λ x. map (λ rest. x ∷ rest) rest_rows) place.1)
     new_step e more =
@@ -114,10 +116,12 @@ module _ {X : Type 0} (same : X → X → Bool) (decides : (x y : X) → Decides
             ∙ sym (map-again (λ rest. row ∷ rest) (spread (chosen ++ row ∷ []) places) (combinations (item_tables (suc (length chosen)) places)))
             ∙ ap (λ n. map (λ rest. row ∷ rest) (map (spread (chosen ++ row ∷ []) places) (combinations (item_tables n places)))) (sym (grown row))
 
-        right : (row : X) → filter (agrees chosen (place ∷ places)) (map (λ rest. row ∷ rest) rest_rows) ≡ map (λ rest. row ∷ rest) (filter (agrees (chosen ++ row ∷ []) places) rest_rows)
+        right : (row : X) → filter (agrees chosen (place ∷ places)) (map (λ rest. row ∷ rest) rest_rows)
+            ≡ map (λ rest. row ∷ rest) (filter (agrees (chosen ++ row ∷ []) places) rest_rows)
         right row =
             filter-map (agrees chosen (place ∷ places)) (λ rest. row ∷ rest) rest_rows
-            ∙ ap (map (λ rest. row ∷ rest)) (filter-each _ _ rest_rows (λ rows h. ap (λ b. cond b (agrees (chosen ++ row ∷ []) places rows) (same (get_or chosen place.0 d) row && agrees chosen places rows)) e))
+            ∙ ap (map (λ rest. row ∷ rest)) (filter-each _ _ rest_rows
+            (λ rows h. ap (λ b. cond b (agrees (chosen ++ row ∷ []) places rows) (same (get_or chosen place.0 d) row && agrees chosen places rows)) e))
 
     -- the place has the row of an item that is there
     old_step : nat_eq place.0 (length chosen) ≡ false → place.0 < length chosen → IsWithoutRepeats place.1 → IsIn (get_or chosen place.0 d) place.1
@@ -137,10 +141,12 @@ module _ {X : Type 0} (same : X → X → Bool) (decides : (x y : X) → Decides
         emptied true row rows = refl
         emptied false row rows = refl
 
-        right : (row : X) → filter (agrees chosen (place ∷ places)) (map (λ rest. row ∷ rest) rest_rows) ≡ cond (same own row) (map (λ rest. row ∷ rest) (filter (agrees chosen places) rest_rows)) []
+        right : (row : X) → filter (agrees chosen (place ∷ places)) (map (λ rest. row ∷ rest) rest_rows)
+            ≡ cond (same own row) (map (λ rest. row ∷ rest) (filter (agrees chosen places) rest_rows)) []
         right row =
             filter-map (agrees chosen (place ∷ places)) (λ rest. row ∷ rest) rest_rows
-            ∙ ap (map (λ rest. row ∷ rest)) (filter-each _ _ rest_rows (λ rows h. ap (λ b. cond b (agrees (chosen ++ row ∷ []) places rows) (same own row && agrees chosen places rows)) e)
+            ∙ ap (map (λ rest. row ∷ rest)) (filter-each _ _ rest_rows
+            (λ rows h. ap (λ b. cond b (agrees (chosen ++ row ∷ []) places rows) (same own row && agrees chosen places rows)) e)
             ∙ filter-and (same own row) (agrees chosen places) rest_rows)
             ∙ emptied (same own row) row (filter (agrees chosen places) rest_rows)
 
@@ -153,7 +159,11 @@ module _ {X : Type 0} (same : X → X → Bool) (decides : (x y : X) → Decides
       (λ s o c a. spread_rows places (λ p h. once p (inr h)) s o c a)
     where
       go : (b : Bool) → nat_eq place.0 (length seen) ≡ b
-          → elim b as (λ b. Type 0) [ true ↦ IsInOrder (seen ++ place.1 ∷ []) places | false ↦ (place.0 < length seen) × (get_or seen place.0 [] ≡ place.1) × IsInOrder seen places ]
+          → elim b as (λ b. Type 0) [
+            | true ↦ IsInOrder (seen ++ place.1 ∷ []) places
+            | false ↦ (place.0 < length seen) × (get_or seen place.0 [] ≡ place.1)
+                × IsInOrder seen places
+          ]
           → ((s : List (List X)) → IsInOrder s places → (c : List X) → AreOf c s
           → map (spread c places) (combinations (item_tables (length c) places)) ≡ filter (agrees c places) (combinations (map (λ place. place.1) places)))
           → map (spread chosen (place ∷ places)) (combinations (item_tables (length chosen) (place ∷ places)))

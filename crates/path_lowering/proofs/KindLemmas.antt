@@ -1,5 +1,6 @@
 -- The places of one singleton have one kind, where a variable names vertices or edges.
-use Rattle.std.proofs.Common.{◌≡◌, ℕ, zero, suc, ◌+◌, ◌*◌, ◌≤◌, ◌<◌, Bool, true, false, cond, List, [], ◌∷◌, ◌++◌, map, flat_map, length, replicate, refl, sym, ap, subst, ◌∙◌, ◌⊎◌, inl, inr, arith, nat_eq, bytes_eq, Option, None, Some, Ordering, Less, Equal, Greater}
+use Rattle.std.proofs.Common.{◌≡◌, ℕ, zero, suc, ◌+◌, ◌*◌, ◌≤◌, ◌<◌, Bool, true, false, cond, List, [], ◌∷◌, ◌++◌, map, flat_map, length, replicate, refl, sym, ap, subst, ◌∙◌}
+use Rattle.std.proofs.Common.{◌⊎◌, inl, inr, arith, nat_eq, bytes_eq, Option, None, Some, Ordering, Less, Equal, Greater}
 use Rattle.std.specs.List.{list_any, AllZip, range_with_len}
 use Rattle.std.specs.Ordering.{match_ordering, nat_cmp}
 use Rattle.std.specs.Cmp.Lexicographic.{slice_cmp}
@@ -16,7 +17,8 @@ use Rattle.graph_ast.specs.declared.checked.Step.TheVariants.{One, Part}
 use Rattle.graph_ast.specs.declared.blocks.Tags.{Tags}
 use Rattle.graph_ast.specs.declared.blocks.Alternative.{Alternative}
 use Rattle.graph_meaning.specs.Lists.{numbers_below, all_same, tagged, agree}
-use Rattle.graph_meaning.specs.Choices.{Iteration, PlacedPiece, operand_at, iterations, placed, expansion_of, place_count, choices, counts_of, variables_at, set_of, put_into, tags_of, pattern_of}
+use Rattle.graph_meaning.specs.Choices.{Iteration, PlacedPiece, operand_at, iterations, placed, expansion_of, place_count, choices, counts_of, variables_at, set_of, put_into}
+use Rattle.graph_meaning.specs.Choices.{tags_of, pattern_of}
 use Rattle.graph_meaning.proofs.Members.{some_of, all_from, from_map, in_flat, from_flat, from_kept, from_below, in_at}
 use Rattle.path_lowering.specs.declared.spots.Kind.{Kind}
 use Rattle.path_lowering.specs.declared.spots.Kind.TheVariants.{Vertex, Edge}
@@ -60,7 +62,8 @@ from_put name [] x (inl e) = inl e
 from_put name [] x (inr h) = absurd h
 from_put name (other ∷ others) x h = go (slice_cmp nat_cmp name other) h (λ k. from_put name others x k)
   where
-    go : (o : Ordering) → IsIn x (match_ordering o (name ∷ other ∷ others) (other ∷ others) (other ∷ put_into name others)) → (IsIn x (put_into name others) → (name ≡ x) ⊎ IsIn x others) → (name ≡ x) ⊎ IsIn x (other ∷ others)
+    go : (o : Ordering) → IsIn x (match_ordering o (name ∷ other ∷ others) (other ∷ others) (other ∷ put_into name others))
+        → (IsIn x (put_into name others) → (name ≡ x) ⊎ IsIn x others) → (name ≡ x) ⊎ IsIn x (other ∷ others)
     go Less h more = h
     go Equal h more = inr h
     go Greater (inl e) more = inr (inl e)
@@ -76,17 +79,24 @@ in_replicate (suc n) x y (inl e) = e
 in_replicate (suc n) x y (inr h) = in_replicate n x y h
 
 -- the pieces of an iteration are those of a step
-iterated_in : (steps : List Step) (counts : List ℕ) (piece : Piece) → IsIn piece (flat_map (λ iteration. iteration.pieces) (iterations steps counts)) → IsIn piece (flat_map pieces_in steps)
+iterated_in : (steps : List Step) (counts : List ℕ) (piece : Piece) → IsIn piece (flat_map (λ iteration. iteration.pieces) (iterations steps counts))
+    → IsIn piece (flat_map pieces_in steps)
 iterated_in [] counts piece h = absurd h
 iterated_in (One one ∷ steps) counts piece h =
-    elim (in_parts piece (one ∷ []) (flat_map (λ (iteration : Iteration). iteration.pieces) (iterations steps counts)) h)
-    [ inl k ↦ in_append piece (one ∷ []) (flat_map pieces_in steps) (inl k) | inr k ↦ in_append piece (one ∷ []) (flat_map pieces_in steps) (inr (iterated_in steps counts piece k)) ]
+    elim (in_parts piece (one ∷ []) (flat_map (λ (iteration : Iteration). iteration.pieces) (iterations steps counts)) h) [
+      | inl k ↦ in_append piece (one ∷ []) (flat_map pieces_in steps) (inl k)
+      | inr k ↦ in_append piece (one ∷ []) (flat_map pieces_in steps)
+          (inr (iterated_in steps counts piece k))
+    ]
 iterated_in (Part lower upper pieces conditions ∷ steps) [] piece h = absurd h
 iterated_in (Part lower upper pieces conditions ∷ steps) (count ∷ counts) piece h =
-    let found = from_flat (λ (iteration : Iteration). iteration.pieces) piece (replicate count (record { pieces = pieces; conditions = conditions }) ++ iterations steps counts) h in
+    let found = from_flat (λ (iteration : Iteration). iteration.pieces) piece (replicate count (record { pieces = pieces; conditions = conditions }) ++ iterations steps counts)
+    h in
     elim (in_parts found.0 (replicate count (record { pieces = pieces; conditions = conditions })) (iterations steps counts) found.1) [
-      | inl k ↦ in_append piece pieces (flat_map pieces_in steps) (inl (subst (λ (i : Iteration). IsIn piece i.pieces) (sym (in_replicate count (record { pieces = pieces; conditions = conditions }) found.0 k)) found.2))
-      | inr k ↦ in_append piece pieces (flat_map pieces_in steps) (inr (iterated_in steps counts piece (in_flat (λ (iteration : Iteration). iteration.pieces) piece found.0 (iterations steps counts) k found.2)))
+      | inl k ↦ in_append piece pieces (flat_map pieces_in steps)
+          (inl (subst (λ (i : Iteration). IsIn piece i.pieces) (sym (in_replicate count (record { pieces = pieces; conditions = conditions }) found.0 k)) found.2))
+      | inr k ↦ in_append piece pieces (flat_map pieces_in steps)
+          (inr (iterated_in steps counts piece (in_flat (λ (iteration : Iteration). iteration.pieces) piece found.0 (iterations steps counts) k found.2)))
     ]
 
 module _ (query : CheckedQuery) where
@@ -113,7 +123,8 @@ module _ (query : CheckedQuery) where
         let made = from_map _ choice (counts_of (operand_at path found.0).steps) found.2 in
         subst (λ (c : Alternative). c.operand < length path.operands) made.2 (from_below (length path.operands) found.0 found.1)
 
-    piece_there : (piece : Piece) → IsIn piece (flat_map (λ iteration. iteration.pieces) (iterations (operand_at path choice.operand).steps choice.counts)) → IsIn piece (query_pieces query)
+    piece_there : (piece : Piece) → IsIn piece (flat_map (λ iteration. iteration.pieces) (iterations (operand_at path choice.operand).steps choice.counts))
+        → IsIn piece (query_pieces query)
     piece_there piece h =
         in_flat path_pieces piece path query.paths among
         (in_flat (λ operand. flat_map pieces_in operand.steps) piece (operand_at path choice.operand) path.operands
@@ -124,7 +135,8 @@ module _ (query : CheckedQuery) where
     at_place kind place h name among_names =
         let some = some_of (bytes_eq name) (set_of (variables_at pieces place)) among_names in
         let same : name ≡ some.0 = (bytes_eq-Decides name some.0).0 some.2 in
-        let found = from_kept (λ (piece : PlacedPiece). cond (nat_eq piece.0 place) (pattern_of piece.1).variable None) some.0 pieces (from_set (variables_at pieces place) some.0 some.1) in
+        let found = from_kept (λ (piece : PlacedPiece). cond (nat_eq piece.0 place) (pattern_of piece.1).variable None) some.0 pieces
+        (from_set (variables_at pieces place) some.0 some.1) in
         let here = kept (nat_eq found.0.0 place) refl found.2 in
         let piece = placed_at 0 (flat_map (λ (iteration : Iteration). iteration.pieces) (iterations (operand_at path choice.operand).steps choice.counts)) found.0 found.1 in
         record {
@@ -159,7 +171,8 @@ module _ (query : CheckedQuery) where
   tagged_named name (t ∷ ts) [] z k h = absurd h
   tagged_named name (t ∷ ts) (own ∷ ks) z k h = go (list_any (bytes_eq name) t.names) refl h (tagged_named name ts ks z.1 k)
     where
-      go : (b : Bool) → list_any (bytes_eq name) t.names ≡ b → IsIn k (cond b (own ∷ tagged name ts ks) (tagged name ts ks)) → (IsIn k (tagged name ts ks) → Named name k) → Named name k
+      go : (b : Bool) → list_any (bytes_eq name) t.names ≡ b → IsIn k (cond b (own ∷ tagged name ts ks) (tagged name ts ks)) → (IsIn k (tagged name ts ks) → Named name k)
+          → Named name k
       go true e (inl m) more = subst (Named name) m (z.0 name e)
       go true e (inr m) more = more m
       go false e m more = more m

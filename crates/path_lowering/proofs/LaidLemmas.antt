@@ -1,5 +1,6 @@
 -- A graph block of a query that can be lowered is laid out.
-use Rattle.std.proofs.Common.{◌≡◌, ℕ, zero, suc, ◌+◌, ◌≤◌, ◌<◌, ◌^◌, true, List, [], ◌∷◌, ◌++◌, map, filter, flat_map, length, take, drop, refl, sym, ap, ap₂, subst, ◌∙◌, inl, inr, arith, nat_eq, Option, None, Some, length-append}
+use Rattle.std.proofs.Common.{◌≡◌, ℕ, zero, suc, ◌+◌, ◌≤◌, ◌<◌, ◌^◌, true, List, [], ◌∷◌, ◌++◌, map, filter, flat_map, length, take, drop, refl, sym, ap, ap₂, subst, ◌∙◌, inl}
+use Rattle.std.proofs.Common.{inr, arith, nat_eq, Option, None, Some, length-append}
 use Rattle.std.specs.List.{AllZip, enumerate_from}
 use Rattle.std.proofs.Math.ListN.{length-map}
 use Rattle.std.proofs.lemmas.List.FromFn.{length-range_with_len}
@@ -49,7 +50,11 @@ plan_long names earlier next [] = refl
 plan_long names earlier next (t ∷ ts) = go (shared_item names t earlier) (λ seen n. plan_long names seen n ts)
   where
     go : (o : Option ℕ) → ((seen : List (Tags × ℕ)) (n : ℕ) → length (plan_after names seen n ts) ≡ length ts)
-        → length {A = ℕ} (elim o [ Some item ↦ item ∷ plan_after names (earlier ++ (t, item) ∷ []) next ts | None ↦ next ∷ plan_after names (earlier ++ (t, next) ∷ []) (suc next) ts ]) ≡ suc (length ts)
+        → length {A = ℕ} (elim o [
+          | Some item ↦ item ∷ plan_after names (earlier ++ (t, item) ∷ []) next ts
+          | None ↦ next ∷ plan_after names (earlier ++ (t, next) ∷ [])
+              (suc next) ts
+        ]) ≡ suc (length ts)
     go (Some item) more = ap suc (more (earlier ++ (t, item) ∷ []) next)
     go None more = ap suc (more (earlier ++ (t, next) ∷ []) (suc next))
 
@@ -88,12 +93,14 @@ shaped graph path place part h =
     let elements = zip_long IsIn assigned.0 (alternating (numbers_below (length graph.vertices)) (numbers_below (length graph.edges)) count) picks
     ∙ alternating_long (numbers_below (length graph.vertices)) (numbers_below (length graph.edges)) count in
     subst (λ (b : PathBlock). IsShaped graph path b) made.2
-    (subst (λ (s : Shape). IsShaped graph path (block_of graph path place s)) assigned.2 (record { choice = of.0; there = of.1; tags = refl; sized = elements; feasible = feasible.1 }))
+    (subst (λ (s : Shape). IsShaped graph path (block_of graph path place s)) assigned.2
+    (record { choice = of.0; there = of.1; tags = refl; sized = elements; feasible = feasible.1 }))
 
 tags_long : (path : CheckedPath) (choice : Alternative) → length (tags_of path choice) ≡ place_count (expansion_of path choice)
 tags_long path choice = length-map (numbers_below (place_count (expansion_of path choice))) _ ∙ length-range_with_len 0 (place_count (expansion_of path choice))
 
-module _ (catalog : Catalog) (graph : Graph) (valid : IsValidGraph catalog graph) (instance : InstanceRows) (fits : Fits catalog instance) (query : CheckedQuery) (ok : IsLowerable graph query) where
+module _ (catalog : Catalog) (graph : Graph) (valid : IsValidGraph catalog graph) (instance : InstanceRows) (fits : Fits catalog instance) (query : CheckedQuery)
+    (ok : IsLowerable graph query) where
   abbrev names : List (List ℕ)
   names = query_singletons query
 
@@ -223,7 +230,8 @@ module _ (catalog : Catalog) (graph : Graph) (valid : IsValidGraph catalog graph
     numbers_laid (path ∷ paths) [] items are long = absurd are
     numbers_laid (path ∷ paths) (p ∷ ps) items are long =
         map-append (λ spot. spot.element) (spots_along Vertex p.elements items) (laid_spots (laid paths ps (drop (length p.elements) items)))
-        ∙ ap₂ (λ l m. l ++ m) (numbers_along Vertex p.elements items (split p ps items long).0) (numbers_laid paths ps (drop (length p.elements) items) are.1 (split p ps items long).1)
+        ∙ ap₂ (λ l m. l ++ m) (numbers_along Vertex p.elements items (split p ps items long).0)
+        (numbers_laid paths ps (drop (length p.elements) items) are.1 (split p ps items long).1)
 
     kinds_laid : (paths : List CheckedPath) (parts : List PathBlock) (items : List ℕ) → AllZip Belongs paths parts → length items ≡ length (numbers_in parts)
         → AllZip (KindsAt query) (tags_in parts) (map (λ spot. spot.kind) (laid_spots (laid paths parts items)))
@@ -232,8 +240,10 @@ module _ (catalog : Catalog) (graph : Graph) (valid : IsValidGraph catalog graph
     kinds_laid (path ∷ paths) [] items are long = absurd are
     kinds_laid (path ∷ paths) (p ∷ ps) items are long =
         let shape = are.0.shape in
-        subst (AllZip (KindsAt query) (tags_in (p ∷ ps))) (sym (map-append (λ spot. spot.kind) (spots_along Vertex p.elements items) (laid_spots (laid paths ps (drop (length p.elements) items)))))
-        (zip_append (KindsAt query) p.tags (tags_in ps) (map (λ spot. spot.kind) (spots_along Vertex p.elements items)) (map (λ spot. spot.kind) (laid_spots (laid paths ps (drop (length p.elements) items))))
+        subst (AllZip (KindsAt query) (tags_in (p ∷ ps)))
+        (sym (map-append (λ spot. spot.kind) (spots_along Vertex p.elements items) (laid_spots (laid paths ps (drop (length p.elements) items)))))
+        (zip_append (KindsAt query) p.tags (tags_in ps) (map (λ spot. spot.kind) (spots_along Vertex p.elements items))
+        (map (λ spot. spot.kind) (laid_spots (laid paths ps (drop (length p.elements) items))))
         (subst (λ ts. AllZip (KindsAt query) ts (map (λ spot. spot.kind) (spots_along Vertex p.elements items))) shape.tags
         (path_kinds query path are.0.among shape.choice shape.there p.elements items shape.sized (split p ps items long).0))
         (kinds_laid paths ps (drop (length p.elements) items) are.1 (split p ps items long).1))
@@ -254,7 +264,7 @@ module _ (catalog : Catalog) (graph : Graph) (valid : IsValidGraph catalog graph
       tags_are : laid_tags laid_parts ≡ tags_in block.paths
       tags_are = tags_laid graph instance catalog prefix combined query.paths block.paths plan (all_fit query.paths block.paths are)
 
-      planned : map (λ spot. spot.item) (laid_spots laid_parts) ≡ plan
+      pub planned : map (λ spot. spot.item) (laid_spots laid_parts) ≡ plan
       planned = items_laid query.paths block.paths plan are plan_is_long
 
       size : length (laid_spots laid_parts) ≡ length (numbers_in block.paths)

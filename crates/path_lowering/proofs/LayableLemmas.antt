@@ -1,5 +1,6 @@
 -- What is known of the places of a path block that is laid along them.
-use Rattle.std.proofs.Common.{◌≡◌, ℕ, zero, suc, ◌+◌, ◌*◌, ◌-◌, ◌<◌, ◌≤◌, Bool, true, false, ◌&&◌, List, [], ◌∷◌, flat_map, length, get_or, slice_get, refl, sym, ap, ap₂, subst, ◌∙◌, inl, inr, arith, None, Some, option_map, nat_eq}
+use Rattle.std.proofs.Common.{◌≡◌, ℕ, zero, suc, ◌+◌, ◌*◌, ◌-◌, ◌<◌, ◌≤◌, Bool, true, false, ◌&&◌, List, [], ◌∷◌, flat_map, length, get_or, slice_get, refl, sym, ap, ap₂, subst}
+use Rattle.std.proofs.Common.{◌∙◌, inl, inr, arith, None, Some, option_map, nat_eq}
 use Rattle.std.proofs.lemmas.Bool.{eqb-true, and_parts}
 use Rattle.std.proofs.lemmas.Option.{slice_get-map, get_or_from_slice_get, slice_get-get_or}
 use Rattle.std.specs.List.{list_all}
@@ -89,7 +90,10 @@ module _ (catalog : Catalog) (graph : Graph) (valid : IsValidGraph catalog graph
       edge_there = there;
       vertex_there = vertex_there;
       columns = subst (λ (x : Element). AreColumnsIn catalog x end.columns) (sym element_is)
-          (record { table = subst (λ (x : Element). x.table < length catalog.tables) element_is (element_valid catalog graph valid edge.kind edge.element there).table_there; places = ok.columns.places });
+          (record {
+            table = subst (λ (x : Element). x.table < length catalog.tables) element_is (element_valid catalog graph valid edge.kind edge.element there).table_there;
+            places = ok.columns.places;
+          });
       key = key_columns vertex vertex_there;
       many = equally_many _ _ end.columns (vertex_element graph end.vertex).key ok.classes ∙ ap (λ n. length (vertex_element graph n).key) is
           ∙ sym (ap (λ k. length (element_of_kind graph k vertex.element).key) vertex_kind);
@@ -131,7 +135,8 @@ module _ (catalog : Catalog) (graph : Graph) (valid : IsValidGraph catalog graph
       → may_meet_piece graph (numbers_at spots) (place, form.Edge direction pattern) ≡ true → IsBetween catalog graph spots place direction
   between_seats place direction pattern behind left edge right may =
       let is = sym (ap (λ o. elim o [ None ↦ true | Some n ↦ may_meet graph (numbers_at spots) place (form.Edge direction pattern) n ]) (number_there place Edge edge)
-      ∙ ap₂ (λ l r. holds_where_given (edge_element graph edge.spot.element).element.labels pattern.label && allows direction (may_lead (edge_element graph edge.spot.element) l r) (may_lead (edge_element graph edge.spot.element) r l))
+      ∙ ap₂ (λ l r. holds_where_given (edge_element graph edge.spot.element).element.labels pattern.label
+      && allows direction (may_lead (edge_element graph edge.spot.element) l r) (may_lead (edge_element graph edge.spot.element) r l))
       (number_there (place - 1) Vertex left) (number_there (place + 1) Vertex right)) ∙ may in
       record {
         behind = behind;
@@ -148,7 +153,8 @@ module _ (catalog : Catalog) (graph : Graph) (valid : IsValidGraph catalog graph
     pub pieces_there : (j : ℕ) (pieces : List Piece) → j + edges_in pieces ≤ edges → list_all (may_meet_piece graph (numbers_at spots)) (placed j pieces) ≡ true
         → (piece : PlacedPiece) → IsIn piece (placed j pieces) → IsPieceAt catalog graph spots piece
     pieces_there j [] within may piece h = absurd h
-    pieces_there j (form.Vertex pattern ∷ pieces) within may piece (inl e) = λ direction other is. let k : form.Vertex pattern ≡ form.Edge direction other = ap (λ p. p.1) e ∙ is in cc
+    pieces_there j (form.Vertex pattern ∷ pieces) within may piece (inl e) = λ direction other is. let k : form.Vertex pattern ≡ form.Edge direction other = ap (λ p. p.1) e
+        ∙ is in cc
     pieces_there j (form.Vertex pattern ∷ pieces) within may piece (inr h) = pieces_there j pieces within (and_parts _ _ may).1 piece h
     pieces_there j (form.Edge direction pattern ∷ pieces) within may piece (inl e) = λ turn other is.
         let k : form.Edge direction pattern ≡ form.Edge turn other = ap (λ p. p.1) e ∙ is in
@@ -165,9 +171,11 @@ pub choice_there : (catalog : Catalog) (graph : Graph) → IsValidGraph catalog 
     → IsPieceAt catalog graph (spots_along Vertex part.elements items) piece
 choice_there catalog graph valid path part ok items many choice h =
     pieces_there catalog graph valid (spots_along Vertex part.elements items) (ok.elements items many) (expansion_of path choice).edges
-    (λ i low. vertex_seat part.elements items i (omega (arith, ok.is_part.sized choice h)) many) (λ i low. edge_seat part.elements items i (omega (arith, ok.is_part.sized choice h)) many)
+    (λ i low. vertex_seat part.elements items i (omega (arith, ok.is_part.sized choice h)) many)
+    (λ i low. edge_seat part.elements items i (omega (arith, ok.is_part.sized choice h)) many)
     0 (flat_map (λ iteration. iteration.pieces) (iterations (operand_at path choice.operand).steps choice.counts)) (omega arith)
-    (ap (λ numbers. list_all (may_meet_piece graph numbers) (expansion_of path choice).pieces) (numbers_along Vertex part.elements items many) ∙ (and_parts _ _ (ok.is_part.feasible choice h)).0)
+    (ap (λ numbers. list_all (may_meet_piece graph numbers) (expansion_of path choice).pieces) (numbers_along Vertex part.elements items many)
+    ∙ (and_parts _ _ (ok.is_part.feasible choice h)).0)
 
 -- the conditions between places that are there
 pub between_is : (catalog : Catalog) (graph : Graph) (prefix : ℕ) (spots : List Spot) (place : ℕ) (direction : Direction) → IsBetween catalog graph spots place direction
@@ -177,7 +185,8 @@ between_is catalog graph prefix spots place direction ok =
     let d : Spot = record { kind = Vertex; element = 0; item = 0 } in
     let behind = ok.behind in
     let within = ok.within in
-    ap₂ (λ l r. between catalog graph prefix direction l (slice_get spots place) r) (slice_get-get_or spots (place - 1) d (omega arith)) (slice_get-get_or spots (place + 1) d (omega arith))
+    ap₂ (λ l r. between catalog graph prefix direction l (slice_get spots place) r) (slice_get-get_or spots (place - 1) d (omega arith))
+    (slice_get-get_or spots (place + 1) d (omega arith))
     ∙ ap (λ o. between catalog graph prefix direction (Some (spot_at spots (place - 1))) o (Some (spot_at spots (place + 1)))) (slice_get-get_or spots place d (omega arith))
 
 get_any : {X : Type 0} (xs : List X) (i : ℕ) (d e : X) → i < length xs → get_or xs i d ≡ get_or xs i e

@@ -29,7 +29,8 @@ map-append f (x ∷ xs) ys = ap (λ l. f x ∷ l) (map-append f xs ys)
 pub map_joined : {A B : Type 0} (f : A → B) (made : List B) (xs ys : List A) → (made ++ map f xs) ++ map f ys ≡ made ++ map f (xs ++ ys)
 map_joined f made xs ys = append_assoc made (map f xs) (map f ys) ∙ ap (λ l. made ++ l) (sym (map-append f xs ys))
 
-pub two_joined : {A B : Type 0} (f : A → B) (front back : List A) (made one two first all whole : List B) → made ≡ whole → one ≡ map f front → two ≡ map f back → first ≡ made ++ one → all ≡ first ++ two
+pub two_joined : {A B : Type 0} (f : A → B) (front back : List A) (made one two first all whole : List B) → made ≡ whole → one ≡ map f front → two ≡ map f back → first
+    ≡ made ++ one → all ≡ first ++ two
     → all ≡ whole ++ map f (front ++ back)
 two_joined f front back made one two first all whole m o t fi al =
     al ∙ ap₂ (λ x y. x ++ y) (fi ∙ ap₂ (λ x y. x ++ y) m o) t ∙ map_joined f whole front back

@@ -1,5 +1,6 @@
 -- One path under ALL SHORTEST: its NOT EXISTS are True exactly where the selector keeps its rows.
-use Rattle.std.proofs.Common.{◌≡◌, ℕ, ◌-◌, ◌<◌, ◌≤◌, ◌^◌, Bool, true, not, ◌&&◌, List, [], ◌∷◌, map, filter, length, slice_index_or, None, Some, refl, sym, ap, ap₂, subst, ◌∙◌, inl, inr, arith}
+use Rattle.std.proofs.Common.{◌≡◌, ℕ, ◌-◌, ◌<◌, ◌≤◌, ◌^◌, Bool, true, not, ◌&&◌, List, [], ◌∷◌, map, filter, length, slice_index_or, None, Some, refl, sym, ap, ap₂, subst, ◌∙◌}
+use Rattle.std.proofs.Common.{inl, inr, arith}
 use Rattle.std.specs.List.{list_any, list_all}
 use Rattle.std.proofs.lemmas.List.{get_or-map, length-map}
 use Rattle.std.proofs.lemmas.Bool.{eqb-true}
@@ -42,11 +43,13 @@ use Rattle.path_lowering.proofs.CandidateRows.{tables_same, passes_same}
 use Rattle.path_lowering.proofs.SelectorLemmas.{reach, shortest_is}
 use Rattle.path_lowering.proofs.EndLemmas.{first_element, last_element, ends_meet}
 
-picks_at : (table_of : Spot → TableRows) (rows : List RowValues) (spots : List Spot) → ((spot : Spot) → IsIn spot spots → IsIn (row_at rows spot) (table_of spot)) → ArePicks (map (row_at rows) spots) (map table_of spots)
+picks_at : (table_of : Spot → TableRows) (rows : List RowValues) (spots : List Spot) → ((spot : Spot) → IsIn spot spots → IsIn (row_at rows spot) (table_of spot))
+    → ArePicks (map (row_at rows) spots) (map table_of spots)
 picks_at table_of rows [] h = tt
 picks_at table_of rows (s ∷ ss) h = (h s (inl refl), picks_at table_of rows ss (λ spot k. h spot (inr k)))
 
-module _ (catalog : Catalog) (graph : Graph) (instance : InstanceRows) (sound : IsValidCatalog catalog) (graph_in : IsIn graph catalog.graphs) (fits : Fits catalog instance) (valid : IsValidGraph catalog graph)
+module _ (catalog : Catalog) (graph : Graph) (instance : InstanceRows) (sound : IsValidCatalog catalog) (graph_in : IsIn graph catalog.graphs) (fits : Fits catalog instance)
+    (valid : IsValidGraph catalog graph)
     (query : CheckedQuery) (ok : IsLowerable graph query) (combined : Combining) (combines : IsCombining combined) (path : CheckedPath) (among : IsIn path query.paths) (place : ℕ)
     (part : PathBlock) (part_in : IsIn part (path_blocks graph place path)) (few : length part.elements < 2 ^ 32) (items : List ℕ) (enough : length part.elements ≤ length items)
     (outer : Tuple) (outer_rows : List RowValues) (shown : Shows catalog graph instance 65 (leaf_value catalog outer) outer_rows (spots_along Vertex part.elements items)) where
@@ -141,10 +144,12 @@ module _ (catalog : Catalog) (graph : Graph) (instance : InstanceRows) (sound : 
         ≡ reach catalog graph valid instance fits path place part part_in rows rows_in other mine
     candidate_row mine k =
         let mine_many : length mine ≡ length other.elements =
-        picks_many graph instance mine (tables_of graph instance other.elements) (from_combinations mine (tables_of graph instance other.elements) k) ∙ tables_many graph instance other.elements known.fitting.numbers in
+        picks_many graph instance mine (tables_of graph instance other.elements) (from_combinations mine (tables_of graph instance other.elements) k)
+        ∙ tables_many graph instance other.elements known.fitting.numbers in
         ap₂ (λ a b. a && b) (passes_same catalog graph instance combined path other known.fitting known.is_part mine k)
         (ap₂ (λ r s. has_ends_of graph own.spots r s mine) first_row last_row
-        ∙ sym (ends_meet graph other.elements part.elements (numbers_below (length other.elements)) mine rows known.fitting.numbers here.fitting.numbers mine_many rows_many own_enough first last))
+        ∙ sym (ends_meet graph other.elements part.elements (numbers_below (length other.elements)) mine rows known.fitting.numbers here.fitting.numbers mine_many rows_many
+        own_enough first last))
 
     one_candidate : conjunct_holds catalog instance (NotExists (candidate_select catalog graph own outside)) outer
         ≡ not (list_any (reach catalog graph valid instance fits path place part part_in rows rows_in other) (tuples graph instance other.elements))
@@ -155,7 +160,8 @@ module _ (catalog : Catalog) (graph : Graph) (instance : InstanceRows) (sound : 
         ∙ ap not (any-each met (reach catalog graph valid instance fits path place part part_in rows rows_in other) (tuples graph instance other.elements) candidate_row)
 
   -- all of them
-  pub path_shortest : list_all (λ other. conjunct_holds catalog instance (NotExists (candidate_select catalog graph (candidate_laid catalog graph combined path other) outside)) outer) (filter (is_candidate part) (path_blocks graph place path))
+  pub path_shortest : list_all (λ other. conjunct_holds catalog instance (NotExists (candidate_select catalog graph (candidate_laid catalog graph combined path other) outside))
+      outer) (filter (is_candidate part) (path_blocks graph place path))
       ≡ is_selected (Some 1) (bindings_in_mode graph instance path) (binding_with graph part rows)
   path_shortest =
       all-each _ _ (filter (is_candidate part) (path_blocks graph place path)) one_candidate

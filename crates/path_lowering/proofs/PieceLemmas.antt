@@ -1,5 +1,6 @@
 -- When the conditions of the element patterns of a choice are True.
-use Rattle.std.proofs.Common.{◌≡◌, ℕ, zero, suc, ◌+◌, ◌-◌, ◌*◌, ◌<◌, ◌≤◌, Bool, true, false, ◌&&◌, List, [], ◌∷◌, map, flat_map, refl, sym, ap, ap₂, subst, ◌∙◌, inl, inr, arith, None, Some, option_map}
+use Rattle.std.proofs.Common.{◌≡◌, ℕ, zero, suc, ◌+◌, ◌-◌, ◌*◌, ◌<◌, ◌≤◌, Bool, true, false, ◌&&◌, List, [], ◌∷◌, map, flat_map, refl, sym, ap, ap₂, subst, ◌∙◌, inl, inr, arith}
+use Rattle.std.proofs.Common.{None, Some, option_map}
 use Rattle.std.specs.Prelude.{slice_get}
 use Rattle.std.specs.List.{list_all}
 use Rattle.std.proofs.lemmas.Bool.{and_parts}
@@ -89,7 +90,8 @@ module _ (catalog : Catalog) (graph : Graph) (instance : InstanceRows) (prefix :
     labels = holds_where_given (edge_element graph number).element.labels pattern.label
 
     abbrev may_join : Bool
-    may_join = allows direction (may_lead (edge_element graph number) (Some left.spot.element) (Some right.spot.element)) (may_lead (edge_element graph number) (Some right.spot.element) (Some left.spot.element))
+    may_join = allows direction (may_lead (edge_element graph number) (Some left.spot.element) (Some right.spot.element))
+        (may_lead (edge_element graph number) (Some right.spot.element) (Some left.spot.element))
 
     may_is : (labels && may_join) ≡ true
     may_is =
@@ -100,7 +102,8 @@ module _ (catalog : Catalog) (graph : Graph) (instance : InstanceRows) (prefix :
     may_parts : (labels ≡ true) × (may_join ≡ true)
     may_parts = and_parts labels may_join may_is
 
-    pub edge_meets : meets_piece graph elements (place, form.Edge direction pattern) ≡ all_true_in env (piece_conditions catalog graph prefix spots (place, form.Edge direction pattern))
+    pub edge_meets : meets_piece graph elements (place, form.Edge direction pattern)
+        ≡ all_true_in env (piece_conditions catalog graph prefix spots (place, form.Edge direction pattern))
     edge_meets =
         ap (λ o. elim o [ None ↦ false | Some x ↦ meets graph elements place (form.Edge direction pattern) x ]) (element_there place Edge edge)
         ∙ ap₂ (λ l r. labels && allows direction (leads here l r) (leads here r l)) (standing_there (place - 1) Vertex left) (standing_there (place + 1) Vertex right)

@@ -1,5 +1,6 @@
 -- Conditions that stand in ON and WHERE ask what they ask together.
-use Rattle.std.proofs.Common.{◌≡◌, ℕ, zero, suc, ◌+◌, ◌<◌, ◌≤◌, Bool, true, false, ◌&&◌, cond, List, [], ◌∷◌, ◌++◌, map, filter, length, refl, sym, ap, ap₂, subst, ◌∙◌, ◌⊎◌, inl, inr, nat_eq, nat_lt, true≢false, arith}
+use Rattle.std.proofs.Common.{◌≡◌, ℕ, zero, suc, ◌+◌, ◌<◌, ◌≤◌, Bool, true, false, ◌&&◌, cond, List, [], ◌∷◌, ◌++◌, map, filter, length, refl, sym, ap, ap₂, subst, ◌∙◌, ◌⊎◌, inl}
+use Rattle.std.proofs.Common.{inr, nat_eq, nat_lt, true≢false, arith}
 use Rattle.std.specs.List.{list_all}
 use Rattle.std.proofs.Math.ListN.{length-map}
 use Rattle.std.proofs.lemmas.Bool.{eqb-true, eq-eqb, and_parts}
@@ -88,7 +89,8 @@ module _ (aliases : List (List ℕ)) (conditions : List SqlCondition) where
       go : (b : Bool) → nat_eq number k ≡ b → (suc number ≤ k → IsIn c (all_members (joined_items aliases conditions (suc number) sources)))
           → IsIn c (or_true (standing_by aliases number conditions) ++ all_members (joined_items aliases conditions (suc number) sources))
       go true e more =
-          in_append c (or_true (standing_by aliases number conditions)) _ (inl (or_true_in (standing_by aliases number conditions) c (subst (λ n. IsIn c (standing_by aliases n conditions)) (sym (eqb-true number k e)) h)))
+          in_append c (or_true (standing_by aliases number conditions)) _
+          (inl (or_true_in (standing_by aliases number conditions) c (subst (λ n. IsIn c (standing_by aliases n conditions)) (sym (eqb-true number k e)) h)))
       go false e more = in_append c (or_true (standing_by aliases number conditions)) _ (inr (more (grind arith)))
 
   or_true_from : (es : List SqlCondition) (c : SqlCondition) → IsIn c (or_true es) → (c ≡ Lit (value.Truth true)) ⊎ IsIn c es
@@ -130,10 +132,12 @@ module _ (catalog : Catalog) (tuple : Tuple) (source : Source) (sources : List S
   some_alias : 1 ≤ length aliases
   some_alias = rw length-map (omega arith)
 
-  each_there : (c : SqlCondition) → IsIn c conditions → list_all passes members ≡ true → list_all passes first ≡ true → (k : ℕ) → latest_of aliases c ≡ k → k < length aliases → passes c ≡ true
+  each_there : (c : SqlCondition) → IsIn c conditions → list_all passes members ≡ true → list_all passes first ≡ true → (k : ℕ) → latest_of aliases c ≡ k → k < length aliases
+      → passes c ≡ true
   each_there c h p q zero e below = each_of passes first q c (kept_in _ conditions c h (eq-eqb _ _ e))
   each_there c h p q (suc k) e below =
-      each_of passes members p c (put_there aliases conditions 1 sources c (suc k) (kept_in _ conditions c h (eq-eqb _ _ e)) (omega arith) (omega (arith, length-map (source ∷ sources) (λ s. s.alias))))
+      each_of passes members p c (put_there aliases conditions 1 sources c (suc k) (kept_in _ conditions c h (eq-eqb _ _ e)) (omega arith)
+      (omega (arith, length-map (source ∷ sources) (λ s. s.alias))))
 
   forth : (list_all passes members && list_all passes first) ≡ true → list_all passes conditions ≡ true
   forth h =
@@ -142,7 +146,10 @@ module _ (catalog : Catalog) (tuple : Tuple) (source : Source) (sources : List S
 
   back : list_all passes conditions ≡ true → (list_all passes members && list_all passes first) ≡ true
   back h = and_join _ _
-      (of_each passes members (λ c k. elim (taken_from aliases conditions 1 sources c k) [ inl e ↦ ap passes e ∙ literal_holds catalog tuple | inr m ↦ each_of passes conditions h c m ]))
+      (of_each passes members (λ c k. elim (taken_from aliases conditions 1 sources c k) [
+        | inl e ↦ ap passes e ∙ literal_holds catalog tuple
+        | inr m ↦ each_of passes conditions h c m
+      ]))
       (of_each passes first (λ c k. each_of passes conditions h c (in_kept _ conditions c k).0))
 
 -- all members of all ON and all conjuncts of WHERE are True of a tuple exactly where all conditions of the list are
@@ -152,5 +159,6 @@ pub placing_means : (catalog : Catalog) (instance : InstanceRows) (tuple : Tuple
     ≡ list_all (holds catalog tuple) conditions
 placing_means catalog instance tuple [] conditions some = absurd (omega arith)
 placing_means catalog instance tuple (source ∷ sources) conditions some =
-    ap (λ b. list_all (holds catalog tuple) (all_members (from_of (source ∷ sources) conditions)) && b) (plain_conjuncts catalog instance tuple (standing_by (map (λ s. s.alias) (source ∷ sources)) 0 conditions))
+    ap (λ b. list_all (holds catalog tuple) (all_members (from_of (source ∷ sources) conditions)) && b)
+    (plain_conjuncts catalog instance tuple (standing_by (map (λ s. s.alias) (source ∷ sources)) 0 conditions))
     ∙ both_ways _ _ (forth catalog tuple source sources conditions) (back catalog tuple source sources conditions)

@@ -1,5 +1,6 @@
 -- Places of a plan begin the next item or have that of an earlier place.
-use Rattle.std.proofs.Common.{◌≡◌, ℕ, suc, ◌<◌, Bool, true, false, ◌&&◌, cond, List, [], ◌∷◌, ◌++◌, map, length, get_or, refl, sym, ap, ap₂, subst, ◌∙◌, inl, inr, Option, None, Some, nat_eq, arith, Decides}
+use Rattle.std.proofs.Common.{◌≡◌, ℕ, suc, ◌<◌, Bool, true, false, ◌&&◌, cond, List, [], ◌∷◌, ◌++◌, map, length, get_or, refl, sym, ap, ap₂, subst, ◌∙◌, inl, inr, Option, None}
+use Rattle.std.proofs.Common.{Some, nat_eq, arith, Decides}
 use Rattle.std.proofs.lemmas.List.{length-append}
 use Rattle.std.proofs.Math.ListN.{get_or-append}
 use Rattle.std.proofs.Math.Seq.{get_or-append_seam}
@@ -46,7 +47,8 @@ module _ {X : Type 0} (same : X → X → Bool) (decides : (x y : X) → Decides
   abbrev Held : {Y : Type 0} → (Entry → Y) → Y → List Entry → List Y → Type 0
   Held f none earlier ys = (q : Entry) → IsIn q earlier → (q.item < length ys) × (get_or ys q.item none ≡ f q)
 
-  grown : {Y : Type 0} (f : Entry → Y) (none : Y) (earlier : List Entry) (ys : List Y) (e : Entry) → Held f none earlier ys → e.item ≡ length ys → Held f none (earlier ++ e ∷ []) (ys ++ f e ∷ [])
+  grown : {Y : Type 0} (f : Entry → Y) (none : Y) (earlier : List Entry) (ys : List Y) (e : Entry) → Held f none earlier ys → e.item ≡ length ys
+      → Held f none (earlier ++ e ∷ []) (ys ++ f e ∷ [])
   grown f none earlier ys e held is q h =
       elim (in_parts q earlier (e ∷ []) h) [
         | inl k ↦ let old = held q k in (let n = length-append ys (f e ∷ []) in omega (arith, n, old.0), get_or-append ys (f e ∷ []) none q.item old.0 ∙ old.1)
@@ -58,7 +60,8 @@ module _ {X : Type 0} (same : X → X → Bool) (decides : (x y : X) → Decides
         ]
       ]
 
-  kept : {Y : Type 0} (f : Entry → Y) (none : Y) (earlier : List Entry) (ys : List Y) (e : Entry) → Held f none earlier ys → e.item < length ys → get_or ys e.item none ≡ f e → Held f none (earlier ++ e ∷ []) ys
+  kept : {Y : Type 0} (f : Entry → Y) (none : Y) (earlier : List Entry) (ys : List Y) (e : Entry) → Held f none earlier ys → e.item < length ys → get_or ys e.item none ≡ f e
+      → Held f none (earlier ++ e ∷ []) ys
   kept f none earlier ys e held below is q h =
       elim (in_parts q earlier (e ∷ []) h) [
         | inl k ↦ held q k
@@ -76,7 +79,8 @@ module _ {X : Type 0} (same : X → X → Bool) (decides : (x y : X) → Decides
   in_pairs (q ∷ qs) p (inl e) = (q, inl refl, e)
   in_pairs (q ∷ qs) p (inr h) = let m = in_pairs qs p h in (m.0, inr m.1, m.2)
 
-  begins : (earlier : List Entry) (next : ℕ) (e : Entry) (more : List Entry) → map (λ x. x.item) (e ∷ more) ≡ plan_after names (map pair_of earlier) next (map (λ x. x.tags) (e ∷ more)) → Begins earlier next e more
+  begins : (earlier : List Entry) (next : ℕ) (e : Entry) (more : List Entry) → map (λ x. x.item) (e ∷ more)
+      ≡ plan_after names (map pair_of earlier) next (map (λ x. x.tags) (e ∷ more)) → Begins earlier next e more
   begins earlier next e more is = go (shared_item names e.tags (map pair_of earlier)) refl is
     where
       go : (o : Option ℕ) → shared_item names e.tags (map pair_of earlier) ≡ o
@@ -121,11 +125,16 @@ module _ {X : Type 0} (same : X → X → Bool) (decides : (x y : X) → Decides
         go (begins earlier (length seen) e more is) (λ s hs k. in_order share more (earlier ++ e ∷ []) (λ q h. t q (inr h)) (longer_among earlier e more a t) s hs k)
       where
         go : Begins earlier (length seen) e more
-            → ((s : List (List X)) → Held (λ x. x.table) [] (earlier ++ e ∷ []) s → map (λ x. x.item) more ≡ plan_after names (map pair_of (earlier ++ e ∷ [])) (length s) (map (λ x. x.tags) more)
+            → ((s : List (List X)) → Held (λ x. x.table) [] (earlier ++ e ∷ []) s → map (λ x. x.item) more ≡ plan_after names (map pair_of (earlier ++ e ∷ [])) (length s)
+            (map (λ x. x.tags) more)
             → IsInOrder same decides d s (map place_of more))
             → IsInOrder same decides d seen (map place_of (e ∷ more))
         go (New item rest) next =
-            subst (λ b. elim b as (λ c. Type 0) [ true ↦ IsInOrder same decides d (seen ++ e.table ∷ []) (map place_of more) | false ↦ (e.item < length seen) × (get_or seen e.item [] ≡ e.table) × IsInOrder same decides d seen (map place_of more) ])
+            subst (λ b. elim b as (λ c. Type 0) [
+              | true ↦ IsInOrder same decides d (seen ++ e.table ∷ []) (map place_of more)
+              | false ↦ (e.item < length seen)
+                  × (get_or seen e.item [] ≡ e.table) × IsInOrder same decides d seen (map place_of more)
+            ])
             (sym (eq-eqb e.item (length seen) item))
             (next (seen ++ e.table ∷ []) (grown (λ x. x.table) [] earlier seen e held item)
             (rest ∙ ap (λ n. plan_after names (map pair_of (earlier ++ e ∷ [])) n (map (λ x. x.tags) more)) (let n = length-append seen (e.table ∷ []) in omega (arith, n))))
@@ -133,22 +142,29 @@ module _ {X : Type 0} (same : X → X → Bool) (decides : (x y : X) → Decides
             let old = held q h in
             let below : e.item < length seen = subst (λ n. n < length seen) (sym item) old.0 in
             let there : get_or seen e.item [] ≡ e.table = ap (λ n. get_or seen n []) item ∙ old.1 ∙ share q e (a q h) (t e (inl refl)) shared in
-            subst (λ b. elim b as (λ c. Type 0) [ true ↦ IsInOrder same decides d (seen ++ e.table ∷ []) (map place_of more) | false ↦ (e.item < length seen) × (get_or seen e.item [] ≡ e.table) × IsInOrder same decides d seen (map place_of more) ])
+            subst (λ b. elim b as (λ c. Type 0) [
+              | true ↦ IsInOrder same decides d (seen ++ e.table ∷ []) (map place_of more)
+              | false ↦ (e.item < length seen)
+                  × (get_or seen e.item [] ≡ e.table) × IsInOrder same decides d seen (map place_of more)
+            ])
             (sym (not_equal e.item (length seen) below))
             (below, there, next seen (kept (λ x. x.table) [] earlier seen e held below there) rest)
 
     pub all_agree : ShareRows → (todo earlier : List Entry) → Among todo → Among earlier → (chosen : List X) → Held (λ e. e.row) d earlier chosen
-        → map (λ e. e.item) todo ≡ plan_after names (map pair_of earlier) (length chosen) (map (λ e. e.tags) todo) → agrees same decides d chosen (map place_of todo) (map (λ e. e.row) todo) ≡ true
+        → map (λ e. e.item) todo ≡ plan_after names (map pair_of earlier) (length chosen) (map (λ e. e.tags) todo)
+        → agrees same decides d chosen (map place_of todo) (map (λ e. e.row) todo) ≡ true
     all_agree share [] earlier t a chosen held is = refl
     all_agree share (e ∷ more) earlier t a chosen held is =
         go (begins earlier (length chosen) e more is) (λ s hs k. all_agree share more (earlier ++ e ∷ []) (λ q h. t q (inr h)) (longer_among earlier e more a t) s hs k)
       where
         go : Begins earlier (length chosen) e more
-            → ((s : List X) → Held (λ x. x.row) d (earlier ++ e ∷ []) s → map (λ x. x.item) more ≡ plan_after names (map pair_of (earlier ++ e ∷ [])) (length s) (map (λ x. x.tags) more)
+            → ((s : List X) → Held (λ x. x.row) d (earlier ++ e ∷ []) s → map (λ x. x.item) more ≡ plan_after names (map pair_of (earlier ++ e ∷ [])) (length s)
+            (map (λ x. x.tags) more)
             → agrees same decides d s (map place_of more) (map (λ x. x.row) more) ≡ true)
             → agrees same decides d chosen (map place_of (e ∷ more)) (map (λ x. x.row) (e ∷ more)) ≡ true
         go (New item rest) next =
-            ap (λ b. cond b (agrees same decides d (chosen ++ e.row ∷ []) (map place_of more) (map (λ x. x.row) more)) (same (get_or chosen e.item d) e.row && agrees same decides d chosen (map place_of more) (map (λ x. x.row) more)))
+            ap (λ b. cond b (agrees same decides d (chosen ++ e.row ∷ []) (map place_of more) (map (λ x. x.row) more))
+            (same (get_or chosen e.item d) e.row && agrees same decides d chosen (map place_of more) (map (λ x. x.row) more)))
             (eq-eqb e.item (length chosen) item)
             ∙ next (chosen ++ e.row ∷ []) (grown (λ x. x.row) d earlier chosen e held item)
             (rest ∙ ap (λ n. plan_after names (map pair_of (earlier ++ e ∷ [])) n (map (λ x. x.tags) more)) (let n = length-append chosen (e.row ∷ []) in omega (arith, n)))
@@ -156,6 +172,7 @@ module _ {X : Type 0} (same : X → X → Bool) (decides : (x y : X) → Decides
             let old = held q h in
             let below : e.item < length chosen = subst (λ n. n < length chosen) (sym item) old.0 in
             let there : get_or chosen e.item d ≡ e.row = ap (λ n. get_or chosen n d) item ∙ old.1 ∙ share q e (a q h) (t e (inl refl)) shared in
-            ap (λ b. cond b (agrees same decides d (chosen ++ e.row ∷ []) (map place_of more) (map (λ x. x.row) more)) (same (get_or chosen e.item d) e.row && agrees same decides d chosen (map place_of more) (map (λ x. x.row) more)))
+            ap (λ b. cond b (agrees same decides d (chosen ++ e.row ∷ []) (map place_of more) (map (λ x. x.row) more))
+            (same (get_or chosen e.item d) e.row && agrees same decides d chosen (map place_of more) (map (λ x. x.row) more)))
             (not_equal e.item (length chosen) below)
             ∙ ap₂ (λ x y. x && y) ((decides (get_or chosen e.item d) e.row).1 there) (next chosen (kept (λ x. x.row) d earlier chosen e held below there) rest)

@@ -54,7 +54,8 @@ truth_printable b = on-Lit value_step (value.Truth b)
 pub pair_printable : (op : Comparison) (a b : SqlCondition) → value_is_printable a ≡ true → value_is_printable b ≡ true → value_is_printable (v.Compare op a b) ≡ true
 pair_printable op a b p q = on-Compare value_step op a b ∙ and_join _ _ p q
 
-members_printable : (es : List SqlCondition) → 2 ≤ length es → list_all value_is_printable es ≡ true → (has_two (map value_is_printable es) && all_true (map value_is_printable es)) ≡ true
+members_printable : (es : List SqlCondition) → 2 ≤ length es → list_all value_is_printable es ≡ true
+    → (has_two (map value_is_printable es) && all_true (map value_is_printable es)) ≡ true
 members_printable es two h =
     and_join _ _ (le-leb 2 (length (map value_is_printable es)) (subst (λ n. 2 ≤ n) (sym (length-map es value_is_printable)) two)) (list_all-map (λ b. b) value_is_printable es ∙ h)
 

@@ -33,7 +33,8 @@ use Rattle.path_lowering.proofs.SoundQuery.{from_block}
 use Rattle.path_lowering.proofs.PrintableForms.{one_there, alias_is_name, null_printable, truth_printable}
 use Rattle.path_lowering.proofs.PrintableSelect.{table_named_well, plain_printable, select_printed, IsSpelledLaid, select_has_text}
 
-module _ (catalog : Catalog) (query : CheckedQuery) (served : IsServed catalog query) (fits : Fits catalog (without_rows catalog)) (combined : Combining) (combines : IsCombining combined)
+module _ (catalog : Catalog) (query : CheckedQuery) (served : IsServed catalog query) (fits : Fits catalog (without_rows catalog)) (combined : Combining)
+    (combines : IsCombining combined)
     (builds : IsBuilding combined) (named : HasNames catalog) (ok : IsSpelledQuery query) where
   abbrev graph : Graph
   graph = graph_at catalog query.graph
@@ -41,7 +42,8 @@ module _ (catalog : Catalog) (query : CheckedQuery) (served : IsServed catalog q
   valid : IsValidGraph catalog graph
   valid = graph_valid catalog query served fits
 
-  laid : (block : Block) → IsIn block (blocks graph query) → IsBlockLaid catalog graph 65 (query_singletons query) (laid_block catalog graph 65 combined query block) query.condition query.columns
+  laid : (block : Block) → IsIn block (blocks graph query) → IsBlockLaid catalog graph 65 (query_singletons query) (laid_block catalog graph 65 combined query block)
+      query.condition query.columns
   laid block there = block_laid catalog graph valid (without_rows catalog) fits query served.lowerable 65 combined combines block there
 
   made : (block : Block) (there : IsIn block (blocks graph query)) (one : Laid) → IsIn one (laid_block catalog graph 65 combined query block)
@@ -56,7 +58,8 @@ module _ (catalog : Catalog) (query : CheckedQuery) (served : IsServed catalog q
 
   block_printable : (block : Block) → IsIn block (blocks graph query) → select_is_printable (select_of_block catalog graph 65 combined query block) ≡ true
   block_printable block there =
-      select_has_text catalog graph 65 (omega arith) (query_singletons query) (laid_block catalog graph 65 combined query block) query.condition query.columns served.valid valid (laid block there)
+      select_has_text catalog graph 65 (omega arith) (query_singletons query) (laid_block catalog graph 65 combined query block) query.condition query.columns served.valid
+      valid (laid block there)
       combined builds named (made block there) ok.condition ok.columns ok.some ok.names
 
   abbrev none : Select
@@ -72,7 +75,8 @@ module _ (catalog : Catalog) (query : CheckedQuery) (served : IsServed catalog q
       ap column_is_printable (sym m.2) ∙ and_join _ _ (null_printable (class_in class_is m.0.value)) (ok.names m.0 m.1)))
       (and_join _ _ refl
       (and_join _ _
-      (and_join _ _ (and_join _ _ (table_named_well catalog named (vertex_element graph 0).table (first_table catalog graph valid)) (and_join _ _ (alias_is_name 65 0 (omega arith) (omega arith)) refl)) refl)
+      (and_join _ _ (and_join _ _ (table_named_well catalog named (vertex_element graph 0).table (first_table catalog graph valid))
+      (and_join _ _ (alias_is_name 65 0 (omega arith) (omega arith)) refl)) refl)
       (and_join _ _ (plain_printable (Lit (Truth false)) ∙ truth_printable false) refl))))
 
   all_printable : (those : List Block) → ((block : Block) → IsIn block those → IsIn block (blocks graph query))
@@ -91,5 +95,6 @@ module _ (catalog : Catalog) (query : CheckedQuery) (served : IsServed catalog q
 
   pub query_printable : IsPrintable (lowered_query catalog combined query)
   query_printable =
-      and_join _ _ (one_there (or_none none (map (select_of_block catalog graph 65 combined query) (blocks graph query))) (some_select (map (select_of_block catalog graph 65 combined query) (blocks graph query))))
+      and_join _ _ (one_there (or_none none (map (select_of_block catalog graph 65 combined query) (blocks graph query)))
+      (some_select (map (select_of_block catalog graph 65 combined query) (blocks graph query))))
       (all_printable (blocks graph query) (λ block h. h))

@@ -22,7 +22,8 @@ use Rattle.sql_algebra.specs.declared.tree.Select.{Select}
 use Rattle.sql_algebra.specs.declared.tree.SelectColumn.{SelectColumn}
 use Rattle.sql_algebra.specs.declared.tree.Conjunct.{Conjunct}
 use Rattle.sql_algebra.specs.declared.tree.Conjunct.TheVariants.{Plain}
-use Rattle.sql_algebra.specs.Printable.{is_name, has_one, all_true, value_is_printable, item_is_printable, begins_chain, column_is_printable, conjunct_step, select_step, select_is_printable}
+use Rattle.sql_algebra.specs.Printable.{is_name, has_one, all_true, value_is_printable, item_is_printable, begins_chain, column_is_printable, conjunct_step, select_step}
+use Rattle.sql_algebra.specs.Printable.{select_is_printable}
 use Rattle.sql_algebra.specs.Soundness.{Reach}
 use Rattle.sql_algebra.proofs.Folds.{of_conjunct, at_select, at_plain}
 use Rattle.path_lowering.specs.declared.placing.Source.{Source}
@@ -44,13 +45,15 @@ use Rattle.path_lowering.proofs.SoundReach.{IsReached, reached, own_in, some_sou
 use Rattle.path_lowering.proofs.SoundConditions.{Accepts, append_fine}
 use Rattle.path_lowering.proofs.SoundSelect.{plainly}
 use Rattle.path_lowering.proofs.SoundBlock.{BecomesFine, block_fine, tags_within}
-use Rattle.path_lowering.proofs.PrintableForms.{one_there, alias_is_name, leaf_printable, null_printable, truth_printable, pair_printable, all_printable, any_printable, mapped_printable}
+use Rattle.path_lowering.proofs.PrintableForms.{one_there, alias_is_name, leaf_printable, null_printable, truth_printable, pair_printable, all_printable, any_printable}
+use Rattle.path_lowering.proofs.PrintableForms.{mapped_printable}
 
 -- the name of a table that is there, and of its columns
 pub table_named_well : (catalog : Catalog) → HasNames catalog → (place : ℕ) → place < length catalog.tables → is_name (table_at catalog place).name ≡ true
 table_named_well catalog named place h = named.tables (table_at catalog place) (in_at catalog.tables place (record { name = []; columns = []; keys = []; references = [] }) h)
 
-module _ (catalog : Catalog) (graph : Graph) (prefix : ℕ) (letter : prefix < 128) (reach : Reach) (valid : IsValidGraph catalog graph) (named : HasNames catalog) (spots : List Spot)
+module _ (catalog : Catalog) (graph : Graph) (prefix : ℕ) (letter : prefix < 128) (reach : Reach) (valid : IsValidGraph catalog graph) (named : HasNames catalog)
+    (spots : List Spot)
     (reached_all : (spot : Spot) → IsIn spot spots → IsReached catalog graph prefix reach spot) where
   pub column_printable : (spot : Spot) → IsIn spot spots → (place : ℕ) → place < length (table_at catalog (element_at graph spot).table).columns
       → value_is_printable (Leaf (leaf_of catalog graph prefix spot place)) ≡ true
@@ -65,7 +68,8 @@ module _ (catalog : Catalog) (graph : Graph) (prefix : ℕ) (letter : prefix < 1
   pub accepts : Accepts catalog graph prefix valid value_is_printable spots
   accepts = record {
     there = λ spot h. (reached_all spot h).there;
-    pair = λ op a b x y p q low high same. pair_printable op (Leaf (leaf_of catalog graph prefix a x)) (Leaf (leaf_of catalog graph prefix b y)) (column_printable a p x low) (column_printable b q y high);
+    pair = λ op a b x y p q low high same. pair_printable op (Leaf (leaf_of catalog graph prefix a x)) (Leaf (leaf_of catalog graph prefix b y)) (column_printable a p x low)
+        (column_printable b q y high);
     all = all_printable;
     any = any_printable;
   }
@@ -73,24 +77,28 @@ module _ (catalog : Catalog) (graph : Graph) (prefix : ℕ) (letter : prefix < 1
   property_printable : (spot : Spot) → IsIn spot spots → (leaf : PropertyLeaf) → value_is_printable (lowered_property catalog graph prefix spot leaf) ≡ true
   property_printable spot h leaf = go (column_of (element_at graph spot) leaf.property) refl
     where
-      go : (o : Option ℕ) → column_of (element_at graph spot) leaf.property ≡ o → value_is_printable (elim o [ None ↦ Null leaf.class | Some column ↦ Leaf (leaf_of catalog graph prefix spot column) ]) ≡ true
+      go : (o : Option ℕ) → column_of (element_at graph spot) leaf.property ≡ o
+          → value_is_printable (elim o [ None ↦ Null leaf.class | Some column ↦ Leaf (leaf_of catalog graph prefix spot column) ]) ≡ true
       go None e = null_printable leaf.class
       go (Some column) e =
           let m = named_column leaf.property (element_at graph spot).properties column e in
           column_printable spot h column
-          (subst (λ n. n < length (table_at catalog (element_at graph spot).table).columns) m.2 ((element_valid catalog graph valid spot.kind spot.element (reached_all spot h).there).property_columns m.0 m.1))
+          (subst (λ n. n < length (table_at catalog (element_at graph spot).table).columns) m.2
+          ((element_valid catalog graph valid spot.kind spot.element (reached_all spot h).there).property_columns m.0 m.1))
 
   module _ (holding : List ℕ → Option Spot) (within : (name : List ℕ) (spot : Spot) → holding name ≡ Some spot → IsIn spot spots) where
     held_printable : (leaf : PropertyLeaf) → value_is_printable (lowered_leaf catalog graph prefix holding leaf) ≡ true
     held_printable leaf = go (holding leaf.variable) refl
       where
-        go : (o : Option Spot) → holding leaf.variable ≡ o → value_is_printable (elim o [ None ↦ Null leaf.class | Some spot ↦ lowered_property catalog graph prefix spot leaf ]) ≡ true
+        go : (o : Option Spot) → holding leaf.variable ≡ o
+            → value_is_printable (elim o [ None ↦ Null leaf.class | Some spot ↦ lowered_property catalog graph prefix spot leaf ]) ≡ true
         go None e = null_printable leaf.class
         go (Some spot) e = property_printable spot (within leaf.variable spot e) leaf
 
     pub lowered_printable : (e : Condition) → IsSpelled e → value_is_printable (lowered catalog graph prefix holding e) ≡ true
     lowered_printable e spelled =
-        mapped_printable (lowered_leaf catalog graph prefix holding) e (each_from_all (λ l. value_is_printable (lowered_leaf catalog graph prefix holding l) ≡ true) held_printable (leaves_in e)) spelled
+        mapped_printable (lowered_leaf catalog graph prefix holding) e
+        (each_from_all (λ l. value_is_printable (lowered_leaf catalog graph prefix holding l) ≡ true) held_printable (leaves_in e)) spelled
 
   pub becomes_printable : (e : Condition) → IsSpelled e → BecomesFine catalog graph prefix valid value_is_printable spots accepts e
   becomes_printable e spelled holding within = lowered_printable holding within e spelled
@@ -100,7 +108,8 @@ members_fine : (es : List SqlCondition) → list_all value_is_printable es ≡ t
 members_fine [] h = and_join _ _ (one_there {A = SqlCondition} (Lit (value.Truth true) ∷ []) (omega arith)) (and_join _ _ (truth_printable true) refl)
 members_fine (e ∷ es) h = and_join _ _ (one_there (e ∷ es) (omega arith)) h
 
-standing_fine : (aliases : List (List ℕ)) (number : ℕ) (conditions : List SqlCondition) → list_all value_is_printable conditions ≡ true → list_all value_is_printable (standing_by aliases number conditions) ≡ true
+standing_fine : (aliases : List (List ℕ)) (number : ℕ) (conditions : List SqlCondition) → list_all value_is_printable conditions ≡ true
+    → list_all value_is_printable (standing_by aliases number conditions) ≡ true
 standing_fine aliases number conditions h =
     of_each value_is_printable (standing_by aliases number conditions) (λ c k. each_of value_is_printable conditions h c (in_kept _ conditions c k).0)
 
@@ -111,7 +120,8 @@ joined_printable : (aliases : List (List ℕ)) (conditions : List SqlCondition) 
     → ((source : Source) → IsIn source sources → IsNamedSource source) → list_all item_is_printable (joined_items aliases conditions number sources) ≡ true
 joined_printable aliases conditions number [] h named = refl
 joined_printable aliases conditions number (s ∷ ss) h named =
-    and_join _ _ (and_join _ _ (named s (inl refl)).0 (and_join _ _ (named s (inl refl)).1 (members_fine (standing_by aliases number conditions) (standing_fine aliases number conditions h))))
+    and_join _ _ (and_join _ _ (named s (inl refl)).0
+    (and_join _ _ (named s (inl refl)).1 (members_fine (standing_by aliases number conditions) (standing_fine aliases number conditions h))))
     (joined_printable aliases conditions (suc number) ss h (λ t k. named t (inr k)))
 
 from_printable : (sources : List Source) (conditions : List SqlCondition) → list_all value_is_printable conditions ≡ true
@@ -146,9 +156,12 @@ pub record IsSpelledLaid (catalog : Catalog) (graph : Graph) (prefix : ℕ) (com
   pub scoped : (choice : Alternative) → IsIn choice laid.part.alternatives → (scoped : Scoped) → IsIn scoped (expansion_of laid.path choice).conditions → IsSpelled scoped.condition
 
 module _ (catalog : Catalog) (graph : Graph) (prefix : ℕ) (letter : prefix < 128) (names : List (List ℕ)) (parts : List Laid) (condition : Option Condition) (outputs : List Output)
-    (sound : IsValidCatalog catalog) (valid : IsValidGraph catalog graph) (ok : IsBlockLaid catalog graph prefix names parts condition outputs) (combined : Combining) (builds : IsBuilding combined)
-    (named : HasNames catalog) (made : (laid : Laid) → IsIn laid parts → IsSpelledLaid catalog graph prefix combined laid) (last : (c : Condition) → condition ≡ Some c → IsSpelled c)
-    (columns : (output : Output) → IsIn output outputs → IsSpelled output.value) (some : 1 ≤ length outputs) (output_names : (output : Output) → IsIn output outputs → is_name output.name ≡ true) where
+    (sound : IsValidCatalog catalog) (valid : IsValidGraph catalog graph) (ok : IsBlockLaid catalog graph prefix names parts condition outputs) (combined : Combining)
+    (builds : IsBuilding combined)
+    (named : HasNames catalog) (made : (laid : Laid) → IsIn laid parts → IsSpelledLaid catalog graph prefix combined laid) (last : (c : Condition) → condition ≡ Some c
+    → IsSpelled c)
+    (columns : (output : Output) → IsIn output outputs → IsSpelled output.value) (some : 1 ≤ length outputs) (output_names : (output : Output) → IsIn output outputs
+    → is_name output.name ≡ true) where
   abbrev sources : List Source
   sources = sources_of catalog graph prefix (laid_spots parts)
 
@@ -173,8 +186,10 @@ module _ (catalog : Catalog) (graph : Graph) (prefix : ℕ) (letter : prefix < 1
     source_named source h =
         let m = in_mapped (source_of catalog graph prefix) source (own_spots 0 (laid_spots parts)) h in
         let spot = reached_all m.0 (own_in catalog graph prefix names parts condition outputs sound valid ok conditions 0 (laid_spots parts) m.0 m.1) in
-        subst IsNamedSource m.2
-        (table_named_well catalog named (element_at graph m.0).table (element_valid catalog graph valid m.0.kind m.0.element spot.there).table_there, alias_is_name prefix m.0.item letter spot.low)
+        subst IsNamedSource m.2 (
+          table_named_well catalog named (element_at graph m.0).table (element_valid catalog graph valid m.0.kind m.0.element spot.there).table_there,
+          alias_is_name prefix m.0.item letter spot.low,
+        )
 
     becomes : (e : Condition) → IsSpelled e
         → BecomesFine catalog graph prefix valid value_is_printable (laid_spots parts) (accepts catalog graph prefix letter reach valid named (laid_spots parts) reached_all) e
@@ -193,7 +208,8 @@ module _ (catalog : Catalog) (graph : Graph) (prefix : ℕ) (letter : prefix < 1
         let m = in_mapped column_of_output column outputs h in
         ap column_is_printable (sym m.2)
         ∙ and_join _ _
-        (lowered_printable catalog graph prefix letter reach valid named (laid_spots parts) reached_all (spot_by (laid_tags parts) (laid_spots parts)) (tags_within (laid_tags parts) (laid_spots parts))
+        (lowered_printable catalog graph prefix letter reach valid named (laid_spots parts) reached_all (spot_by (laid_tags parts) (laid_spots parts))
+        (tags_within (laid_tags parts) (laid_spots parts))
         m.0.value (columns m.0 m.1))
         (output_names m.0 m.1)
 
@@ -206,7 +222,8 @@ module _ (catalog : Catalog) (graph : Graph) (prefix : ℕ) (letter : prefix < 1
         (and_join _ _ (from_printable sources conditions (conditions_printable h) source_named)
         (ap all_true (map-append conjunct_printable (where_of sources conditions) more)
         ∙ list_all-append (λ b. b) (map conjunct_printable (where_of sources conditions)) (map conjunct_printable more)
-        ∙ and_join _ _ (plain_all (standing_by (map (λ source. source.alias) sources) 0 conditions) (standing_fine (map (λ source. source.alias) sources) 0 conditions (conditions_printable h)))
+        ∙ and_join _ _ (plain_all (standing_by (map (λ source. source.alias) sources) 0 conditions)
+        (standing_fine (map (λ source. source.alias) sources) 0 conditions (conditions_printable h)))
         more_fine))))
 
   pub select_has_text : select_is_printable (select_for catalog graph prefix names parts condition outputs) ≡ true

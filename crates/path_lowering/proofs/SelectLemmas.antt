@@ -1,7 +1,8 @@
 -- The rows of a block's SELECT are the rows of the block.
-use Rattle.std.proofs.Common.{◌≡◌, ℕ, zero, suc, ◌+◌, ◌*◌, ◌<◌, ◌≤◌, ◌^◌, Bool, true, false, ◌&&◌, cond, List, [], ◌∷◌, ◌++◌, map, filter, length, get_or, drop, refl, sym, ap, ap₂, subst, ◌∙◌, inl, inr, nat_eq, Option, None, Some, arith, Decides}
+use Rattle.std.proofs.Common.{◌≡◌, ℕ, zero, suc, ◌+◌, ◌*◌, ◌<◌, ◌≤◌, ◌^◌, Bool, true, false, ◌&&◌, cond, List, [], ◌∷◌, ◌++◌, map, filter, length, get_or, drop, refl, sym, ap}
+use Rattle.std.proofs.Common.{ap₂, subst, ◌∙◌, inl, inr, nat_eq, Option, None, Some, arith, Decides}
 use Rattle.std.specs.List.{list_all}
-use Rattle.std.proofs.Math.ListN.{length-map}
+use Rattle.std.proofs.Math.ListN.{get_or-append, length-map}
 use Rattle.std.proofs.lemmas.List.{get_or-map}
 use Rattle.std.proofs.lemmas.List.Folds.{list_all-map, list_all-append}
 use Rattle.std.proofs.lemmas.Bool.{and_parts, eqb-true, eq-eqb}
@@ -28,7 +29,7 @@ use Rattle.sql_algebra.specs.declared.tree.Select.{Select}
 use Rattle.sql_algebra.specs.declared.tree.FromItem.{FromItem}
 use Rattle.sql_algebra.specs.declared.tree.Conjunct.{Conjunct}
 use Rattle.sql_algebra.specs.Catalogs as sql_side
-use Rattle.sql_algebra.specs.Tuples.{Tuple, leaf_value, holds, all_members}
+use Rattle.sql_algebra.specs.Tuples.{Tuple, tuples_under, leaf_value, holds, all_members}
 use Rattle.sql_algebra.specs.Meaning.{conjunct_holds, select_rows, output_row}
 use Rattle.sql_algebra.proofs.Folds.{select_means}
 use Rattle.path_lowering.specs.declared.spots.Kind.TheVariants.{Vertex, Edge}
@@ -38,16 +39,18 @@ use Rattle.path_lowering.specs.Emitted.{SqlCondition, lowered, spot_by}
 use Rattle.path_lowering.specs.declared.placing.Source.{Source}
 use Rattle.path_lowering.specs.Placed.{from_of, where_of}
 use Rattle.path_lowering.specs.Shown.{Shows, count_of_kind}
-use Rattle.path_lowering.specs.Blocks.{alternatives_of, reads_at, IsPlain, IsPart, SaysAny, Laid, laid_tags, laid_spots, block_conditions, own_spots, source_of, sources_of, column_for, plan_of, share_name}
-use Rattle.path_lowering.specs.Selects.{walk_through, steps_through, place_elements, passes_path, passes_paths, passes_block, block_row, block_rows_besides, select_besides, SayBesides, IsUnder}
+use Rattle.path_lowering.specs.Blocks.{alternatives_of, reads_at, IsPlain, IsPart, SaysAny, Laid, laid_tags, laid_spots, block_conditions, own_spots, source_of, sources_of}
+use Rattle.path_lowering.specs.Blocks.{column_for, plan_of, share_name}
+use Rattle.path_lowering.specs.Selects.{walk_through, steps_through, place_elements, passes_path, passes_paths, passes_block, block_row, block_rows_besides, select_besides}
+use Rattle.path_lowering.specs.Selects.{SayBesides, IsUnder}
 use Rattle.path_lowering.proofs.Truths.{and_together}
 use Rattle.path_lowering.proofs.Facts.{element_valid}
-use Rattle.path_lowering.proofs.Lists.{map-each, filter-each, map-again, filter-map, filter-twice}
+use Rattle.path_lowering.proofs.Lists.{map-each, map-append, filter-each, map-again, filter-map, filter-twice}
 use Rattle.path_lowering.proofs.ConditionLemmas.{value_means, follows_tags}
 use Rattle.path_lowering.proofs.PlacingLemmas.{placing_means, in_kept}
 use Rattle.path_lowering.proofs.ItemLemmas.{Place, item_tables, agrees, IsInOrder, spread, spread_rows}
 use Rattle.path_lowering.proofs.SourceLemmas.{looked_up, from_tables, items_numbered, own_tables, own_few}
-use Rattle.path_lowering.proofs.TupleLemmas.{bound_to, tables_of, tuples_under_are, combination_many, combination_at, rows_found, column_found, leaf_found, passed_over}
+use Rattle.path_lowering.proofs.TupleLemmas.{bound_to, bound_rows, tables_of, tuples_under_are, combination_many, combination_at, rows_found, column_found, leaf_found, passed_over}
 use Rattle.path_lowering.proofs.BlockLemmas.{block_means}
 
 -- the elements of rows for items are those of the rows that the places have
@@ -81,9 +84,11 @@ walk_placed : (graph : Graph) (rows : List RowValues) (edges : ℕ) (numbers ite
     → places_of (walk_through (elements_at graph rows (spots_along Vertex numbers items))) ≡ elements_at graph rows (spots_along Vertex numbers items)
 walk_placed graph rows edges [] items size many = absurd (omega arith)
 walk_placed graph rows edges (n ∷ ns) [] size many = absurd (omega arith)
-walk_placed graph rows edges (n ∷ ns) (a ∷ more) size many = ap (λ l. of_row graph Vertex n (get_or rows a []) ∷ l) (steps_placed graph rows edges ns more (omega arith) (omega arith))
+walk_placed graph rows edges (n ∷ ns) (a ∷ more) size many = ap (λ l. of_row graph Vertex n (get_or rows a []) ∷ l)
+    (steps_placed graph rows edges ns more (omega arith) (omega arith))
 
-module _ (catalog : Catalog) (graph : Graph) (instance : InstanceRows) (prefix : ℕ) (names : List (List ℕ)) (parts : List Laid) (condition : Option Condition) (outputs : List Output) (besides : List SqlCondition)
+module _ (catalog : Catalog) (graph : Graph) (instance : InstanceRows) (prefix : ℕ) (names : List (List ℕ)) (parts : List Laid) (condition : Option Condition)
+    (outputs : List Output) (besides : List SqlCondition)
     (sound : IsValidCatalog catalog) (valid : IsValidGraph catalog graph) (fits : Fits catalog instance) where
   abbrev spots : List Spot
   spots = laid_spots parts
@@ -127,7 +132,8 @@ module _ (catalog : Catalog) (graph : Graph) (instance : InstanceRows) (prefix :
     own_in next [] spot h = absurd h
     own_in next (s ∷ ss) spot h = go (nat_eq s.item next) h (own_in (suc next) ss spot) (own_in next ss spot)
       where
-        go : (b : Bool) → IsIn spot (cond b (s ∷ own_spots (suc next) ss) (own_spots next ss)) → (IsIn spot (own_spots (suc next) ss) → IsIn spot ss) → (IsIn spot (own_spots next ss) → IsIn spot ss) → IsIn spot (s ∷ ss)
+        go : (b : Bool) → IsIn spot (cond b (s ∷ own_spots (suc next) ss) (own_spots next ss)) → (IsIn spot (own_spots (suc next) ss) → IsIn spot ss)
+            → (IsIn spot (own_spots next ss) → IsIn spot ss) → IsIn spot (s ∷ ss)
         go true (inl e) more skip = inl e
         go true (inr k) more skip = inr (more k)
         go false k more skip = inr (skip k)
@@ -140,7 +146,8 @@ module _ (catalog : Catalog) (graph : Graph) (instance : InstanceRows) (prefix :
         ∙ map-each _ rows_for (own_spots 0 spots) (λ spot h. rows_found catalog sound instance (element_at graph spot).table (element_ok spot (own_in 0 spots spot h)).table_there)
         ∙ own_tables catalog graph prefix same_values same_values_decides [] rows_for 0 spots
 
-    placed_in : (table : Spot → List (List Value)) (spot : Spot) (some : List Spot) → IsIn spot some → IsIn {X = ℕ × List (List Value)} (spot.item, table spot) (map (λ s. (s.item, table s)) some)
+    placed_in : (table : Spot → List (List Value)) (spot : Spot) (some : List Spot) → IsIn spot some → IsIn {X = ℕ × List (List Value)} (spot.item, table spot)
+        (map (λ s. (s.item, table s)) some)
     placed_in table spot [] h = absurd h
     placed_in table spot (s ∷ ss) (inl e) = inl (ap (λ x. (x.item, table x)) e)
     placed_in table spot (s ∷ ss) (inr h) = inr (placed_in table spot ss h)
@@ -158,10 +165,20 @@ module _ (catalog : Catalog) (graph : Graph) (instance : InstanceRows) (prefix :
         sym (length-map items (λ item. item.table)) ∙ ap length (from_tables sources conditions) ∙ length-map sources (λ source. source.table)
         ∙ length-map (own_spots 0 spots) (source_of catalog graph prefix)
 
+    -- the item of a place is there, with the table of the place's element
+    pub item_found : (spot : Spot) → IsIn spot spots → (d : FromItem) → (spot.item < length items) × ((get_or items spot.item d).table ≡ name_for spot)
+    item_found spot h d =
+        let found = looked_up nat_eq nat_eq_decides 0 named_places [] named_order (spot.item, name_for spot) (named_in name_for spot spots h) in
+        let below : spot.item < length items = subst (λ n. spot.item < n) (length-map items (λ item. item.table)) (subst (λ l. spot.item < length l) (sym names_are) found.0) in
+        (below, sym (get_or-map (λ item. item.table) items spot.item d [] below) ∙ ap (λ l. get_or l spot.item []) names_are ∙ found.1)
+
     -- what rows for the items show at the places
     module _ (outer : Tuple) (rows : List RowValues) (chosen : IsIn rows (combinations (tables_of catalog instance items))) where
       abbrev tuple : Tuple
       tuple = bound_to items rows ++ outer
+
+      rows_sized : length rows ≡ length items
+      rows_sized = combination_many (tables_of catalog instance items) rows chosen ∙ length-map items (λ item. sql_side.rows_of catalog instance item.table)
 
       row_there : (spot : Spot) → IsIn spot spots → IsIn (row_at rows spot) (rows_for spot)
       row_there spot h =
@@ -172,16 +189,22 @@ module _ (catalog : Catalog) (graph : Graph) (instance : InstanceRows) (prefix :
       column_there : (spot : Spot) → IsIn spot spots → (place : ℕ) → place < length (table_at catalog (element_at graph spot).table).columns
           → leaf_value catalog tuple (Rattle.path_lowering.specs.Emitted.leaf_of catalog graph prefix spot place) ≡ value_at (row_at rows spot) place
       column_there spot h place k =
-          let found = looked_up nat_eq nat_eq_decides 0 named_places [] named_order (spot.item, name_for spot) (named_in name_for spot spots h) in
-          let below : spot.item < length items = subst (λ n. spot.item < n) (length-map items (λ item. item.table)) (subst (λ l. spot.item < length l) (sym names_are) found.0) in
-          let sized : length rows ≡ length items = combination_many (tables_of catalog instance items) rows chosen ∙ length-map items (λ item. sql_side.rows_of catalog instance item.table) in
-          let name : (get_or items spot.item no_item).table ≡ name_for spot = sym (get_or-map (λ item. item.table) items spot.item no_item [] below) ∙ ap (λ l. get_or l spot.item []) names_are ∙ found.1 in
+          let found = item_found spot h no_item in
           let n = own_few catalog graph prefix 0 spots in
           let zeroth : spot.item ≡ 0 + spot.item = omega arith in
           leaf_found catalog prefix outer items rows 0 spot.item no_item (Rattle.path_lowering.specs.Emitted.leaf_of catalog graph prefix spot place)
-          (items_numbered catalog graph prefix spots conditions) sized below (omega (arith, many_items, n, few)) (ap (Rattle.path_lowering.specs.Emitted.alias_of prefix) zeroth)
-          ∙ ap (λ t. value_at (row_at rows spot) (sql_side.column_place catalog t (column_at (table_at catalog (element_at graph spot).table) place).name)) name
+          (items_numbered catalog graph prefix spots conditions) rows_sized found.0 (omega (arith, many_items, n, few))
+          (ap (Rattle.path_lowering.specs.Emitted.alias_of prefix) zeroth)
+          ∙ ap (λ t. value_at (row_at rows spot) (sql_side.column_place catalog t (column_at (table_at catalog (element_at graph spot).table) place).name)) found.1
           ∙ ap (value_at (row_at rows spot)) (column_found catalog sound instance (element_at graph spot).table place (element_ok spot h).table_there k)
+
+      -- a place has in the tuple the row of its item
+      rows_seen : map (row_at (map (λ bound. bound.row) tuple)) spots ≡ map (row_at rows) spots
+      rows_seen =
+          map-each (row_at (map (λ bound. bound.row) tuple)) (row_at rows) spots
+          (λ spot h.
+          ap (λ l. row_at l spot) (map-append (λ bound. bound.row) (bound_to items rows) outer ∙ ap (λ l. l ++ map (λ bound. bound.row) outer) (bound_rows items rows rows_sized))
+          ∙ get_or-append rows (map (λ bound. bound.row) outer) [] spot.item (subst (λ n. spot.item < n) (sym rows_sized) (item_found spot h no_item).0))
 
       pub shows : Shows catalog graph instance prefix (leaf_value catalog tuple) rows spots
       shows = record { elements = there; members = row_there; columns = column_there }
@@ -202,10 +225,12 @@ module _ (catalog : Catalog) (graph : Graph) (instance : InstanceRows) (prefix :
     walk_for rows laid = walk_through (elements_at graph rows laid.spots)
 
     walk_ok : (rows : List RowValues) (laid : Laid) → LaidOk laid → places_of (walk_for rows laid) ≡ elements_at graph rows laid.spots
-    walk_ok rows laid ok = subst (λ s. places_of (walk_through (elements_at graph rows s)) ≡ elements_at graph rows s) (sym ok.spots_are) (walk_placed graph rows ok.edges laid.part.elements ok.items ok.sized ok.many)
+    walk_ok rows laid ok = subst (λ s. places_of (walk_through (elements_at graph rows s)) ≡ elements_at graph rows s) (sym ok.spots_are)
+        (walk_placed graph rows ok.edges laid.part.elements ok.items ok.sized ok.many)
 
     passes_paths_spread : (rows : List RowValues) (some : List Laid)
-        → list_all (λ laid. passes_path graph instance laid.path laid.part (elements_at graph rows laid.spots)) some ≡ passes_paths graph instance some (map (row_at rows) (laid_spots some))
+        → list_all (λ laid. passes_path graph instance laid.path laid.part (elements_at graph rows laid.spots)) some
+        ≡ passes_paths graph instance some (map (row_at rows) (laid_spots some))
     passes_paths_spread rows [] = refl
     passes_paths_spread rows (laid ∷ more) =
         ap₂ (λ a b. a && b)
@@ -230,7 +255,8 @@ module _ (catalog : Catalog) (graph : Graph) (instance : InstanceRows) (prefix :
       tuple_of rows = bound_to items rows ++ outer
 
       abbrev layer_holds : Tuple → Bool
-      layer_holds t = list_all (holds catalog t) (all_members items) && list_all (λ conjunct. conjunct t) (map (conjunct_holds catalog instance) (where_of sources conditions ++ more))
+      layer_holds t = list_all (holds catalog t) (all_members items) && list_all (λ conjunct. conjunct t)
+          (map (conjunct_holds catalog instance) (where_of sources conditions ++ more))
 
       abbrev spread_of : List RowValues → List RowValues
       spread_of rows = spread same_values same_values_decides [] [] places rows
@@ -253,7 +279,16 @@ module _ (catalog : Catalog) (graph : Graph) (instance : InstanceRows) (prefix :
       block_true_is : (rows : List RowValues) → IsIn rows combos → block_true rows ≡ passes_block graph instance names parts condition (spread_of rows)
       block_true_is rows h =
           block_means catalog graph instance prefix (leaf_value catalog (tuple_of rows)) rows valid fits names parts condition (walk_for rows) (shows outer rows h)
-          (λ laid k. let ok = laid_all laid k in record { items = ok.items; many = ok.many; spots_are = ok.spots_are; part = ok.part; says = ok.says; tags_many = ok.tags_many; walk = walk_ok rows laid ok; names_in = ok.names_in })
+          (λ laid k. let ok = laid_all laid k in record {
+            items = ok.items;
+            many = ok.many;
+            spots_are = ok.spots_are;
+            part = ok.part;
+            says = ok.says;
+            tags_many = ok.tags_many;
+            walk = walk_ok rows laid ok;
+            names_in = ok.names_in;
+          })
           numbers kinds plain
           ∙ ap₂ (λ a elements. a && (agree same_element names tags elements && Rattle.path_lowering.specs.Blocks.meets_last graph instance (held_by tags elements) condition))
           (passes_paths_spread rows parts) (sym (elements_spread graph rows spots))
@@ -278,7 +313,8 @@ module _ (catalog : Catalog) (graph : Graph) (instance : InstanceRows) (prefix :
       output_is rows h =
           map-again (λ column. value_in (leaf_value catalog (tuple_of rows)) column.value) (column_for catalog graph prefix tags spots) outputs
           ∙ map-each _ _ outputs (λ output k.
-          value_means catalog graph instance prefix (leaf_value catalog (tuple_of rows)) rows spots valid fits (shows outer rows h) (spot_by tags spots) (held_by tags (elements_at graph rows spots))
+          value_means catalog graph instance prefix (leaf_value catalog (tuple_of rows)) rows spots valid fits (shows outer rows h) (spot_by tags spots)
+          (held_by tags (elements_at graph rows spots))
           (follows_tags catalog graph instance prefix (leaf_value catalog (tuple_of rows)) rows spots valid fits (shows outer rows h) tags) output.value (plain_outputs output k)
           ∙ ap (λ elements. value_in (graph_side.leaf_value graph instance (held_by tags elements)) output.value) (sym (elements_spread graph rows spots)))
           ∙ ap (block_row graph instance parts outputs) (sym (spread_is rows))
@@ -288,21 +324,45 @@ module _ (catalog : Catalog) (graph : Graph) (instance : InstanceRows) (prefix :
 
       -- rows that pass agree where places share an item
       abbrev PassingAgree : Type 0
-      PassingAgree = (rows : List RowValues) → IsIn rows (combinations (map rows_for spots)) → passes_block graph instance names parts condition rows ≡ true → agrees same_values same_values_decides [] [] places rows ≡ true
+      PassingAgree = (rows : List RowValues) → IsIn rows (combinations (map rows_for spots)) → passes_block graph instance names parts condition rows ≡ true
+          → agrees same_values same_values_decides [] [] places rows ≡ true
 
-      pub select_is : PassingAgree → ((place : Place same_values same_values_decides []) → IsIn place places → IsWithoutRepeats place.1)
-          → select_rows catalog instance select outer ≡ block_rows_besides graph instance names parts condition outputs extra
+      abbrev AllOnce : Type 0
+      AllOnce = (place : Place same_values same_values_decides []) → IsIn place places → IsWithoutRepeats place.1
+
+      abbrev kept : List Tuple
+      kept = filter layer_holds (tuples_under catalog instance items outer)
+
+      -- the tuples of which all conditions are True are those of rows that pass
+      kept_are : kept ≡ map tuple_of (filter (λ rows. passes (spread_of rows)) combos)
+      kept_are =
+          ap (filter layer_holds) (tuples_under_are catalog instance items outer) ∙ filter-map layer_holds tuple_of combos
+          ∙ ap (map tuple_of) (filter-each _ (λ rows. passes (spread_of rows)) combos holds_is)
+
+      spread_kept : PassingAgree → AllOnce → map spread_of (filter (λ rows. passes (spread_of rows)) combos) ≡ filter passes (combinations (map rows_for spots))
+      spread_kept agree_there once =
+          sym (filter-map passes spread_of combos)
+          ∙ ap (λ l. filter passes (map spread_of (combinations l))) tables_are
+          ∙ ap (filter passes) (spread_rows same_values same_values_decides [] places once [] order [] (record { many = refl; each = λ k below. absurd (omega arith) }))
+          ∙ ap (λ l. filter passes (filter (agrees same_values same_values_decides [] [] places) (combinations l)))
+          (map-again (λ place. place.1) (λ spot. (spot.item, rows_for spot)) spots)
+          ∙ filter-twice passes (agrees same_values same_values_decides [] [] places) (combinations (map rows_for spots))
+          (λ rows h p. agree_there rows h (and_parts (passes_block graph instance names parts condition rows) (extra rows) p).0)
+
+      -- the rows that these tuples have at the places, and the rows of the SELECT
+      pub places_are : PassingAgree → AllOnce → map (λ tuple. map (row_at (map (λ bound. bound.row) tuple)) spots) kept ≡ filter passes (combinations (map rows_for spots))
+      places_are agree_there once =
+          let seen = λ (tuple : Tuple). map (row_at (map (λ bound. bound.row) tuple)) spots in
+          let those = filter (λ rows. passes (spread_of rows)) combos in
+          ap (map seen) kept_are ∙ map-again seen tuple_of those
+          ∙ map-each _ spread_of those (λ rows h. rows_seen outer rows (in_kept _ combos rows h).0 ∙ sym (spread_is rows)) ∙ spread_kept agree_there once
+
+      pub select_is : PassingAgree → AllOnce → select_rows catalog instance select outer ≡ block_rows_besides graph instance names parts condition outputs extra
       select_is agree_there once =
+          let those = filter (λ rows. passes (spread_of rows)) combos in
           ap (λ f. f outer) (select_means catalog instance select)
-          ∙ ap (λ ts. map (output_row catalog select.columns) (filter layer_holds ts)) (tuples_under_are catalog instance items outer)
-          ∙ ap (map (output_row catalog select.columns)) (filter-map layer_holds tuple_of combos)
-          ∙ map-again (output_row catalog select.columns) tuple_of (filter (λ rows. layer_holds (tuple_of rows)) combos)
-          ∙ ap (map (λ rows. output_row catalog select.columns (tuple_of rows))) (filter-each _ (λ rows. passes (spread_of rows)) combos holds_is)
-          ∙ map-each _ (λ rows. made (spread_of rows)) (filter (λ rows. passes (spread_of rows)) combos) (λ rows h. output_is rows (in_kept _ combos rows h).0)
-          ∙ sym (map-again made spread_of (filter (λ rows. passes (spread_of rows)) combos))
-          ∙ ap (map made) (sym (filter-map passes spread_of combos))
-          ∙ ap (λ l. map made (filter passes (map spread_of (combinations l)))) tables_are
-          ∙ ap (λ l. map made (filter passes l)) (spread_rows same_values same_values_decides [] places once [] order [] (record { many = refl; each = λ k below. absurd (omega arith) }))
-          ∙ ap (λ l. map made (filter passes (filter (agrees same_values same_values_decides [] [] places) (combinations l)))) (map-again (λ place. place.1) (λ spot. (spot.item, rows_for spot)) spots)
-          ∙ ap (map made) (filter-twice passes (agrees same_values same_values_decides [] [] places) (combinations (map rows_for spots))
-          (λ rows h p. agree_there rows h (and_parts (passes_block graph instance names parts condition rows) (extra rows) p).0))
+          ∙ ap (map (output_row catalog select.columns)) kept_are
+          ∙ map-again (output_row catalog select.columns) tuple_of those
+          ∙ map-each _ (λ rows. made (spread_of rows)) those (λ rows h. output_is rows (in_kept _ combos rows h).0)
+          ∙ sym (map-again made spread_of those)
+          ∙ ap (map made) (spread_kept agree_there once)

@@ -1,5 +1,6 @@
 -- ALL SHORTEST by candidates: what the selector keeps is what no candidate has shorter.
-use Rattle.std.proofs.Common.{◌≡◌, ℕ, suc, ◌+◌, ◌-◌, ◌*◌, ◌<◌, Bool, true, false, not, ◌&&◌, ◌||◌, cond, List, [], ◌∷◌, filter, length, slice_index_or, nat_eq, nat_lt, Some, refl, sym, subst, ap, ◌∙◌, arith}
+use Rattle.std.proofs.Common.{◌≡◌, ℕ, suc, ◌+◌, ◌-◌, ◌*◌, ◌<◌, Bool, true, false, not, ◌&&◌, ◌||◌, cond, List, [], ◌∷◌, filter, length, slice_index_or, nat_eq, nat_lt, Some}
+use Rattle.std.proofs.Common.{refl, sym, subst, ap, ◌∙◌, arith}
 use Rattle.std.specs.List.{list_any, list_all}
 use Rattle.std.proofs.lemmas.Bool.{eqb-true, eq-eqb, le-ltb}
 use Rattle.std.proofs.lemmas.Bool.Decides.{Decides-ltb}
@@ -43,7 +44,8 @@ module _ (catalog : Catalog) (graph : Graph) (valid : IsValidGraph catalog graph
   abbrev walk_of : PathBlock → List RowValues → Walk
   walk_of block rows = walk_with graph block.elements rows
 
-  numbers_are : (block : PathBlock) → IsIn block (path_blocks graph place path) → (rows : List RowValues) → IsIn rows (tuples graph instance block.elements) → block.elements ≡ numbers_of (walk_of block rows)
+  numbers_are : (block : PathBlock) → IsIn block (path_blocks graph place path) → (rows : List RowValues) → IsIn rows (tuples graph instance block.elements) → block.elements
+      ≡ numbers_of (walk_of block rows)
   numbers_are block h rows k = (rows_lie catalog graph valid instance fits path place block h rows k).0.elements
 
   -- a path block has a walk's places, its first and its last element
@@ -52,7 +54,8 @@ module _ (catalog : Catalog) (graph : Graph) (valid : IsValidGraph catalog graph
     first : slice_index_or elements 0 0 ≡ walk.start.0
     last : slice_index_or elements (length elements - 1) 0 ≡ (last_of walk).0
 
-  has_walk : (block : PathBlock) → IsIn block (path_blocks graph place path) → (rows : List RowValues) → IsIn rows (tuples graph instance block.elements) → HasWalk block.elements (walk_of block rows)
+  has_walk : (block : PathBlock) → IsIn block (path_blocks graph place path) → (rows : List RowValues) → IsIn rows (tuples graph instance block.elements)
+      → HasWalk block.elements (walk_of block rows)
   has_walk block h rows k =
       let walk = walk_of block rows in
       subst (λ ns. HasWalk ns walk) (sym (numbers_are block h rows k)) (record { many = place_count_of walk; first = refl; last = last_number walk })

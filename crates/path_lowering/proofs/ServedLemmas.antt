@@ -1,5 +1,6 @@
 -- A graph block of a query that can be lowered is ready to be laid.
-use Rattle.std.proofs.Common.{◌≡◌, ℕ, ◌+◌, ◌*◌, ◌≤◌, ◌<◌, ◌^◌, Bool, true, List, [], ◌∷◌, map, flat_map, length, refl, sym, ap, ap₂, subst, ◌∙◌, inl, inr, arith, nat_eq, length-append}
+use Rattle.std.proofs.Common.{◌≡◌, ℕ, ◌+◌, ◌*◌, ◌≤◌, ◌<◌, ◌^◌, Bool, true, List, [], ◌∷◌, map, flat_map, length, refl, sym, ap, ap₂, subst, ◌∙◌, inl, inr, arith, nat_eq}
+use Rattle.std.proofs.Common.{length-append}
 use Rattle.std.specs.List.{AllZip, enumerate_from, list_all}
 use Rattle.std.proofs.Math.ListN.{length-map}
 use Rattle.std.proofs.lemmas.Bool.{eqb-true}
@@ -45,7 +46,8 @@ use Rattle.path_lowering.proofs.Theorems.{first_item}
 -- a choice names one of the operands
 operand_there : (path : CheckedPath) (choice : Alternative) → IsIn choice (choices path) → choice.operand < length path.operands
 operand_there path choice h =
-    let of = from_flat (λ place. map (λ counts. record { operand = place; counts = counts }) (counts_of (operand_at path place).steps)) choice (Rattle.graph_meaning.specs.Lists.numbers_below (length path.operands)) h in
+    let of = from_flat (λ place. map (λ counts. record { operand = place; counts = counts }) (counts_of (operand_at path place).steps)) choice
+    (Rattle.graph_meaning.specs.Lists.numbers_below (length path.operands)) h in
     let made = from_map (λ counts. record { operand = of.0; counts = counts }) choice (counts_of (operand_at path of.0).steps) of.2 in
     subst (λ (a : Alternative). a.operand < length path.operands) made.2 (from_below (length path.operands) of.0 of.1)
 
@@ -77,7 +79,8 @@ kind_is Edge Edge h = refl
 alike_at : {X : Type 0} (same : X → X → Bool) (is : (x y : X) → same x y ≡ true → x ≡ y) (f : Spot → X) (names : List (List ℕ)) (tags : List Tags) (spots : List Spot)
     → agree same names tags (map f spots) ≡ true → (name : List ℕ) → IsIn name names → (a b : Spot) → IsIn a (tagged name tags spots) → IsIn b (tagged name tags spots) → f a ≡ f b
 alike_at same is f names tags spots all name there a b h k =
-    let own : all_same same (map f (tagged name tags spots)) ≡ true = ap (all_same same) (sym (tagged_map f name tags spots)) ∙ each_of (λ n. all_same same (tagged n tags (map f spots))) names all name there in
+    let own : all_same same (map f (tagged name tags spots)) ≡ true = ap (all_same same) (sym (tagged_map f name tags spots))
+    ∙ each_of (λ n. all_same same (tagged n tags (map f spots))) names all name there in
     all_alike same is (map f (tagged name tags spots)) own (f a) (f b) (in_map f a (tagged name tags spots) h) (in_map f b (tagged name tags spots) k)
 
 module _ (catalog : Catalog) (query : CheckedQuery) (served : IsServed catalog query) (fits : Fits catalog (without_rows catalog)) where
@@ -96,7 +99,8 @@ module _ (catalog : Catalog) (query : CheckedQuery) (served : IsServed catalog q
   abbrev BelongsTo : CheckedPath → PathBlock → Type 0
   BelongsTo = Belongs catalog graph graph_valid instance fits query served.lowerable
 
-  layable : (path : CheckedPath) (place : ℕ) (part : PathBlock) → IsIn path query.paths → IsIn part (path_blocks graph place path) → length part.elements < 2 ^ 32 → IsLayable graph path part
+  layable : (path : CheckedPath) (place : ℕ) (part : PathBlock) → IsIn path query.paths → IsIn part (path_blocks graph place path) → length part.elements < 2 ^ 32
+      → IsLayable graph path part
   layable path place part among h few =
       let is = belongs catalog graph graph_valid instance fits query served.lowerable path place part among h in record {
         is_part = is.is_part;
@@ -136,7 +140,8 @@ module _ (catalog : Catalog) (query : CheckedQuery) (served : IsServed catalog q
       many = plan_is_long catalog graph graph_valid instance fits query served.lowerable prefix apart apart_combines block there;
       there = (laid prefix).elements;
       sources = subst (λ n. 1 ≤ n) (sym (length-map (own_spots 0 (laid_spots (laid_block catalog graph prefix apart query block))) (source_of catalog graph prefix)))
-          (first_item (laid prefix).shared (laid_tags (laid_block catalog graph prefix apart query block)) (laid_spots (laid_block catalog graph prefix apart query block)) (laid prefix).some
+          (first_item (laid prefix).shared (laid_tags (laid_block catalog graph prefix apart query block)) (laid_spots (laid_block catalog graph prefix apart query block))
+          (laid prefix).some
           (sym (sym (length-map (laid_spots (laid_block catalog graph prefix apart query block)) (λ spot. spot.item)) ∙ ap length (laid prefix).planned
           ∙ plan_long (laid prefix).shared [] 0 (laid_tags (laid_block catalog graph prefix apart query block)))) (laid prefix).planned);
       few = (let few = served.lowerable.few block there in omega (arith, many, few));
@@ -152,6 +157,7 @@ module _ (catalog : Catalog) (query : CheckedQuery) (served : IsServed catalog q
     plannable = record { few = (ready 65).few; many = (ready 65).many }
 
   -- the lowered query means the answer
-  pub served_means : IsUnselected query → (tables : InstanceRows) → Fits catalog tables → IsSameMultiset (answer catalog query [] [] tables) (bag catalog (lowered_query catalog apart query) tables)
+  pub served_means : IsUnselected query → (tables : InstanceRows) → Fits catalog tables
+      → IsSameMultiset (answer catalog query [] [] tables) (bag catalog (lowered_query catalog apart query) tables)
   served_means unselected tables own =
       lowered_is catalog tables query (record { valid = served.valid; there = graph_in; fits = own }) served.lowerable unselected apart apart_combines

@@ -1,5 +1,6 @@
 -- Places that share a singleton have one table, and one row where the rows pass.
-use Rattle.std.proofs.Common.{◌≡◌, ℕ, Bool, true, false, ◌&&◌, ◌||◌, cond, List, [], ◌∷◌, map, filter, length, refl, sym, ap, ap₂, subst, ◌∙◌, inl, inr, nat_eq, bytes_eq, arith, true≢false, Decides}
+use Rattle.std.proofs.Common.{◌≡◌, ℕ, Bool, true, false, ◌&&◌, ◌||◌, cond, List, [], ◌∷◌, map, filter, length, refl, sym, ap, ap₂, subst, ◌∙◌, inl, inr, nat_eq, bytes_eq, arith}
+use Rattle.std.proofs.Common.{true≢false, Decides}
 use Rattle.std.specs.List.{list_any}
 use Rattle.std.proofs.lemmas.Bool.{and_parts, eqb-true}
 use Rattle.pgq_base.specs.Instances.{RowValues, TableRows, InstanceRows, same_values}
@@ -74,7 +75,8 @@ same_all same tells (z ∷ zs) h x y p q = sym (at x p) ∙ at y q
     at w (inl e) = e
     at w (inr k) = tells z w (each_of (same z) zs h w k)
 
-tagged_there : {X : Type 0} (g : Full → X) (name : List ℕ) (fulls : List Full) (f : Full) → IsIn f fulls → list_any (bytes_eq name) f.tags.names ≡ true → IsIn (g f) (tagged name (tags_of fulls) (map g fulls))
+tagged_there : {X : Type 0} (g : Full → X) (name : List ℕ) (fulls : List Full) (f : Full) → IsIn f fulls → list_any (bytes_eq name) f.tags.names ≡ true
+    → IsIn (g f) (tagged name (tags_of fulls) (map g fulls))
 tagged_there g name [] f h k = absurd h
 tagged_there g name (q ∷ qs) f h k = go (list_any (bytes_eq name) q.tags.names) refl h (λ m. tagged_there g name qs f m k)
   where
@@ -102,9 +104,12 @@ rowed_of (f ∷ fs) [] = []
 rowed_of (f ∷ fs) (r ∷ rs) = (f, r) ∷ rowed_of fs rs
 
 module _ (graph : Graph) (instance : InstanceRows) (names : List (List ℕ)) (fulls : List Full)
-    (numbers : agree nat_eq names (tags_of fulls) (map (λ f. f.spot.element) fulls) ≡ true) (kinds : agree same_kind names (tags_of fulls) (map (λ f. f.spot.kind) fulls) ≡ true) where
-  shared_name : (f g : Full) → share_name names f.tags g.tags ≡ true → (name : List ℕ) × IsIn name names × (list_any (bytes_eq name) f.tags.names ≡ true) × (list_any (bytes_eq name) g.tags.names ≡ true)
-  shared_name f g h = let m = any_found (λ name. list_any (bytes_eq name) f.tags.names && list_any (bytes_eq name) g.tags.names) names h in let p = and_parts _ _ m.2 in (m.0, m.1, p.0, p.1)
+    (numbers : agree nat_eq names (tags_of fulls) (map (λ f. f.spot.element) fulls) ≡ true) (kinds : agree same_kind names (tags_of fulls) (map (λ f. f.spot.kind) fulls)
+    ≡ true) where
+  shared_name : (f g : Full) → share_name names f.tags g.tags ≡ true → (name : List ℕ) × IsIn name names × (list_any (bytes_eq name) f.tags.names ≡ true)
+      × (list_any (bytes_eq name) g.tags.names ≡ true)
+  shared_name f g h = let m = any_found (λ name. list_any (bytes_eq name) f.tags.names && list_any (bytes_eq name) g.tags.names) names h in let p = and_parts _ _ m.2 in
+      (m.0, m.1, p.0, p.1)
 
   shared_number : (f g : Full) → IsIn f fulls → IsIn g fulls → share_name names f.tags g.tags ≡ true → f.spot.element ≡ g.spot.element
   shared_number f g p q h =
@@ -129,7 +134,8 @@ module _ (graph : Graph) (instance : InstanceRows) (names : List (List ℕ)) (fu
 
       pub places_in_order : IsInOrder same decides d [] (map (λ spot. (spot.item, table (element_at graph spot))) (spots_of fulls))
       places_in_order =
-          subst (IsInOrder same decides d []) (map-again (λ e. (e.item, e.table)) entry fulls ∙ sym (map-again (λ spot. (spot.item, table (element_at graph spot))) (λ f. f.spot) fulls))
+          subst (IsInOrder same decides d []) (map-again (λ e. (e.item, e.table)) entry fulls
+          ∙ sym (map-again (λ spot. (spot.item, table (element_at graph spot))) (λ f. f.spot) fulls))
           (in_order same decides d names (map entry fulls) share (map entry fulls) [] (λ e h. h) (λ e h. absurd h) [] (λ q h. absurd h)
           (map-again (λ e. e.item) entry fulls ∙ planned ∙ ap (plan_after names [] 0) (sym (map-again (λ e. e.tags) entry fulls))))
         where
@@ -154,7 +160,8 @@ module _ (graph : Graph) (instance : InstanceRows) (names : List (List ℕ)) (fu
           go : (b : Bool) → list_any (bytes_eq name) f.tags.names ≡ b → IsIn r ((f, row) ∷ rowed_of fs rows)
               → (IsIn r (rowed_of fs rows) → IsIn (of_row graph r.0.spot.kind r.0.spot.element r.1) (tagged name (tags_of fs) (place_elements graph (spots_of fs) rows)))
               → IsIn (of_row graph r.0.spot.kind r.0.spot.element r.1)
-              (cond b (of_row graph f.spot.kind f.spot.element row ∷ tagged name (tags_of fs) (place_elements graph (spots_of fs) rows)) (tagged name (tags_of fs) (place_elements graph (spots_of fs) rows)))
+              (cond b (of_row graph f.spot.kind f.spot.element row ∷ tagged name (tags_of fs) (place_elements graph (spots_of fs) rows))
+              (tagged name (tags_of fs) (place_elements graph (spots_of fs) rows)))
           go true e (inl s) more = inl (ap (λ x. of_row graph x.0.spot.kind x.0.spot.element x.1) s)
           go true e (inr m) more = inr (more m)
           go false e (inl s) more = absurd (true≢false (sym k ∙ ap (λ x. list_any (bytes_eq name) x.0.tags.names) (sym s) ∙ e))
@@ -166,21 +173,24 @@ module _ (graph : Graph) (instance : InstanceRows) (names : List (List ℕ)) (fu
       rowed_full (f ∷ fs) (row ∷ rows) r (inl e) = inl (ap (λ x. x.0) e)
       rowed_full (f ∷ fs) (row ∷ rows) r (inr h) = inr (rowed_full fs rows r h)
 
-      rowed_member : (some : List Full) (rows : List RowValues) → IsIn rows (combinations (map rows_for (spots_of some))) → (r : Rowed) → IsIn r (rowed_of some rows) → IsIn r.1 (rows_for r.0.spot)
+      rowed_member : (some : List Full) (rows : List RowValues) → IsIn rows (combinations (map rows_for (spots_of some))) → (r : Rowed) → IsIn r (rowed_of some rows)
+          → IsIn r.1 (rows_for r.0.spot)
       rowed_member [] rows h r k = absurd k
       rowed_member (f ∷ fs) rows h r k =
           let m = in_flat_map (λ x. map (λ rest. x ∷ rest) (combinations (map rows_for (spots_of fs)))) rows (rows_for f.spot) h in
           let n = in_mapped (λ rest. m.0 ∷ rest) rows (combinations (map rows_for (spots_of fs))) m.2 in
           elim (subst (λ l. IsIn r (rowed_of (f ∷ fs) l)) (sym n.2) k) [ inl e ↦ subst (λ x. IsIn x.1 (rows_for x.0.spot)) e m.1 | inr l ↦ rowed_member fs n.0 n.1 r l ]
 
-      shared_row : (rows : List RowValues) → IsIn rows (combinations (map rows_for (spots_of fulls))) → agree same_element names (tags_of fulls) (place_elements graph (spots_of fulls) rows) ≡ true
+      shared_row : (rows : List RowValues) → IsIn rows (combinations (map rows_for (spots_of fulls)))
+          → agree same_element names (tags_of fulls) (place_elements graph (spots_of fulls) rows) ≡ true
           → (r s : Rowed) → IsIn r (rowed_of fulls rows) → IsIn s (rowed_of fulls rows) → share_name names r.0.tags s.0.tags ≡ true → r.1 ≡ s.1
       shared_row rows chosen all r s p q h =
           let f = rowed_full fulls rows r p in
           let g = rowed_full fulls rows s q in
           let n = shared_name r.0 s.0 h in
           let same : same_element (of_row graph r.0.spot.kind r.0.spot.element r.1) (of_row graph s.0.spot.kind s.0.spot.element s.1) ≡ true =
-          pair_same (tagged n.0 (tags_of fulls) (place_elements graph (spots_of fulls) rows)) (each_of _ names all n.0 n.1) _ _ (tagged_rowed n.0 fulls rows r p n.2) (tagged_rowed n.0 fulls rows s q n.3) in
+          pair_same (tagged n.0 (tags_of fulls) (place_elements graph (spots_of fulls) rows)) (each_of _ names all n.0 n.1) _ _ (tagged_rowed n.0 fulls rows r p n.2)
+          (tagged_rowed n.0 fulls rows s q n.3) in
           let same_here : same_element (of_row graph r.0.spot.kind r.0.spot.element r.1) (of_row graph r.0.spot.kind r.0.spot.element s.1) ≡ true =
           ap₂ (λ k m. same_element (of_row graph r.0.spot.kind r.0.spot.element r.1) (of_row graph k m s.1)) (shared_kind r.0 s.0 f g h) (shared_number r.0 s.0 f g h) ∙ same in
           key_tells catalog instance fits (element_at graph r.0.spot) (element_ok r.0 f) r.1 s.1 (rowed_member fulls rows chosen r p)
@@ -190,7 +200,8 @@ module _ (graph : Graph) (instance : InstanceRows) (names : List (List ℕ)) (fu
       abbrev row_entry : Rowed → Entry same_values same_values_decides [] names
       row_entry r = record { tags = r.0.tags; item = r.0.spot.item; table = rows_for r.0.spot; row = r.1 }
 
-      rowed_back : {Y : Type 0} (g : Full → Y) (some : List Full) (rows : List RowValues) → IsIn rows (combinations (map rows_for (spots_of some))) → map (λ r. g r.0) (rowed_of some rows) ≡ map g some
+      rowed_back : {Y : Type 0} (g : Full → Y) (some : List Full) (rows : List RowValues) → IsIn rows (combinations (map rows_for (spots_of some)))
+          → map (λ r. g r.0) (rowed_of some rows) ≡ map g some
       rowed_back g [] rows h = refl
       rowed_back g (f ∷ fs) rows h =
           let m = in_flat_map (λ x. map (λ rest. x ∷ rest) (combinations (map rows_for (spots_of fs)))) rows (rows_for f.spot) h in
@@ -205,17 +216,21 @@ module _ (graph : Graph) (instance : InstanceRows) (names : List (List ℕ)) (fu
           let n = in_mapped (λ rest. m.0 ∷ rest) rows (combinations (map rows_for (spots_of fs))) m.2 in
           ap (λ l. map (λ r. r.1) (rowed_of (f ∷ fs) l)) (sym n.2) ∙ ap (λ l. m.0 ∷ l) (rowed_rows fs n.0 n.1) ∙ n.2
 
-      pub rows_agree : (rows : List RowValues) → IsIn rows (combinations (map rows_for (spots_of fulls))) → agree same_element names (tags_of fulls) (place_elements graph (spots_of fulls) rows) ≡ true
+      pub rows_agree : (rows : List RowValues) → IsIn rows (combinations (map rows_for (spots_of fulls)))
+          → agree same_element names (tags_of fulls) (place_elements graph (spots_of fulls) rows) ≡ true
           → agrees same_values same_values_decides [] [] (map (λ spot. (spot.item, rows_for spot)) (spots_of fulls)) rows ≡ true
       rows_agree rows chosen all =
           sym (ap₂ (agrees same_values same_values_decides [] [])
-          (map-again (λ e. (e.item, e.table)) row_entry (rowed_of fulls rows) ∙ rowed_back (λ f. (f.spot.item, rows_for f.spot)) fulls rows chosen ∙ sym (map-again (λ spot. (spot.item, rows_for spot)) (λ f. f.spot) fulls))
+          (map-again (λ e. (e.item, e.table)) row_entry (rowed_of fulls rows) ∙ rowed_back (λ f. (f.spot.item, rows_for f.spot)) fulls rows chosen
+          ∙ sym (map-again (λ spot. (spot.item, rows_for spot)) (λ f. f.spot) fulls))
           (map-again (λ e. e.row) row_entry (rowed_of fulls rows) ∙ rowed_rows fulls rows chosen))
-          ∙ all_agree same_values same_values_decides [] names (map row_entry (rowed_of fulls rows)) share (map row_entry (rowed_of fulls rows)) [] (λ e h. h) (λ e h. absurd h) [] (λ q h. absurd h)
+          ∙ all_agree same_values same_values_decides [] names (map row_entry (rowed_of fulls rows)) share (map row_entry (rowed_of fulls rows)) [] (λ e h. h)
+          (λ e h. absurd h) [] (λ q h. absurd h)
           (map-again (λ e. e.item) row_entry (rowed_of fulls rows) ∙ rowed_back (λ f. f.spot.item) fulls rows chosen ∙ planned
           ∙ ap (plan_after names [] 0) (sym (map-again (λ e. e.tags) row_entry (rowed_of fulls rows) ∙ rowed_back (λ f. f.tags) fulls rows chosen)))
         where
-          share : (p q : Entry same_values same_values_decides [] names) → IsIn p (map row_entry (rowed_of fulls rows)) → IsIn q (map row_entry (rowed_of fulls rows)) → share_name names p.tags q.tags ≡ true → p.row ≡ q.row
+          share : (p q : Entry same_values same_values_decides [] names) → IsIn p (map row_entry (rowed_of fulls rows)) → IsIn q (map row_entry (rowed_of fulls rows))
+              → share_name names p.tags q.tags ≡ true → p.row ≡ q.row
           share p q h k s =
               let f = in_mapped row_entry p (rowed_of fulls rows) h in
               let g = in_mapped row_entry q (rowed_of fulls rows) k in

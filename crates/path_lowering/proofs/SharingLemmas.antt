@@ -47,8 +47,10 @@ module _ (catalog : Catalog) (graph : Graph) (instance : InstanceRows) (prefix :
       elements : element_at graph x ≡ element_at graph y
       elements = ap₂ (element_of_kind graph) kinds numbers
 
-      is : same_element (standing graph rows x) (standing graph rows y) ≡ same_values (values_at (element_at graph x).key (row_at rows x)) (values_at (element_at graph x).key (row_at rows y))
-      is = ap (same_element (standing graph rows x)) (ap₂ (λ k n. of_row graph k n (row_at rows y)) (sym kinds) (sym numbers)) ∙ same_of_kind graph x.kind x.element (row_at rows x) (row_at rows y)
+      is : same_element (standing graph rows x) (standing graph rows y) ≡ same_values (values_at (element_at graph x).key (row_at rows x))
+          (values_at (element_at graph x).key (row_at rows y))
+      is = ap (same_element (standing graph rows x)) (ap₂ (λ k n. of_row graph k n (row_at rows y)) (sym kinds) (sym numbers))
+          ∙ same_of_kind graph x.kind x.element (row_at rows x) (row_at rows y)
 
       go : (b : Bool) → nat_eq x.item y.item ≡ b
           → all_true_in env (cond b [] (compared_columns catalog graph prefix Equal x (element_at graph x).key y (element_at graph y).key))
@@ -81,9 +83,11 @@ module _ (catalog : Catalog) (graph : Graph) (instance : InstanceRows) (prefix :
       list_all-flat_map (true_in env) (same_key catalog graph prefix x) xs ∙ others_mean x (all x (inl refl)) xs (λ y h. all y (inr h)) numbers kinds
 
   -- the key equalities of shared places say that the places of each singleton hold one element
-  pub sharing_means : (names : List (List ℕ)) (tags : List Tags) → agree nat_eq names tags (map (λ s. s.element) spots) ≡ true → agree same_kind names tags (map (λ s. s.kind) spots) ≡ true
+  pub sharing_means : (names : List (List ℕ)) (tags : List Tags) → agree nat_eq names tags (map (λ s. s.element) spots) ≡ true
+      → agree same_kind names tags (map (λ s. s.kind) spots) ≡ true
       → all_true_in env (sharing_conditions catalog graph prefix names tags spots) ≡ agree same_element names tags (elements_at graph rows spots)
-  sharing_means names tags numbers kinds = list_all-flat_map (true_in env) (λ name. all_same_key catalog graph prefix (tagged name tags spots)) names ∙ each_name names numbers kinds
+  sharing_means names tags numbers kinds = list_all-flat_map (true_in env) (λ name. all_same_key catalog graph prefix (tagged name tags spots)) names
+      ∙ each_name names numbers kinds
     where
       each_name : (some : List (List ℕ)) → agree nat_eq some tags (map (λ s. s.element) spots) ≡ true → agree same_kind some tags (map (λ s. s.kind) spots) ≡ true
           → list_all (λ name. all_true_in env (all_same_key catalog graph prefix (tagged name tags spots))) some ≡ agree same_element some tags (elements_at graph rows spots)

@@ -35,7 +35,7 @@ use Rattle.path_lowering.proofs.EdgeLemmas.{spot_valid, key_known}
 use Rattle.path_lowering.proofs.Facts.{in_at}
 use Rattle.path_lowering.proofs.Theorems.{block_besides}
 
-none_of : {A B : Type 0} (f : A → B) (p : A → Bool) (xs : List A) → has_none (map f (filter p xs)) ≡ not (list_any p xs)
+pub none_of : {A B : Type 0} (f : A → B) (p : A → Bool) (xs : List A) → has_none (map f (filter p xs)) ≡ not (list_any p xs)
 none_of f p [] = refl
 none_of {A} f p (x ∷ xs) = go (p x) (none_of f p xs)
   where
@@ -49,19 +49,23 @@ module _ (catalog : Catalog) (graph : Graph) (instance : InstanceRows) (sound : 
 
   -- places outside, and what an outer tuple has there
   module _ (outer : Tuple) (outer_rows : List RowValues) (outside : List Spot) (shown : Shows catalog graph instance 65 (leaf_value catalog outer) outer_rows outside) where
-    module _ (tuple : Tuple) (rows : List RowValues) (own : List Spot) (shows : Shows catalog graph instance 83 (leaf_value catalog tuple) rows own) (under : IsUnder catalog 83 outer tuple) where
+    module _ (tuple : Tuple) (rows : List RowValues) (own : List Spot) (shows : Shows catalog graph instance 83 (leaf_value catalog tuple) rows own)
+        (under : IsUnder catalog 83 outer tuple) where
       across : (a b : Spot) → IsIn a own → IsIn b outside → element_at graph b ≡ element_at graph a
-          → list_all (holds catalog tuple) (key_across catalog graph a b) ≡ same_values (values_at (element_at graph a).key (row_at rows a)) (values_at (element_at graph a).key (row_at outer_rows b))
+          → list_all (holds catalog tuple) (key_across catalog graph a b) ≡ same_values (values_at (element_at graph a).key (row_at rows a))
+          (values_at (element_at graph a).key (row_at outer_rows b))
       across a b p q same =
           go (element_at graph a).key (λ c h. (spot_valid catalog graph instance 83 (leaf_value catalog tuple) rows own valid fits shows a p).key.places c h)
           (λ c h. key_known catalog graph instance 65 (leaf_value catalog outer) outer_rows outside valid fits shown b q c (subst (λ e. IsIn c e.key) (sym same) h))
         where
-          column_is : (c : ℕ) → c < length (table_at catalog (element_at graph a).table).columns → leaf_value catalog tuple (leaf_of catalog graph 65 b c) ≡ value_at (row_at outer_rows b) c
+          column_is : (c : ℕ) → c < length (table_at catalog (element_at graph a).table).columns → leaf_value catalog tuple (leaf_of catalog graph 65 b c)
+              ≡ value_at (row_at outer_rows b) c
           column_is c h =
               under.kept (leaf_of catalog graph 65 b c) 65 b.item refl (λ e. absurd (omega (arith, e)))
               ∙ shown.columns b q c (subst (λ e. c < length (table_at catalog e.table).columns) (sym same) h)
 
-          go : (cs : List ℕ) → ((c : ℕ) → IsIn c cs → c < length (table_at catalog (element_at graph a).table).columns) → ((c : ℕ) → IsIn c cs → is_null (value_at (row_at outer_rows b) c) ≡ false)
+          go : (cs : List ℕ) → ((c : ℕ) → IsIn c cs → c < length (table_at catalog (element_at graph a).table).columns)
+              → ((c : ℕ) → IsIn c cs → is_null (value_at (row_at outer_rows b) c) ≡ false)
               → list_all (holds catalog tuple) (map (λ column. Compare Equal (Leaf (leaf_of catalog graph 83 a column)) (Leaf (leaf_of catalog graph 65 b column))) cs)
               ≡ same_values (values_at cs (row_at rows a)) (values_at cs (row_at outer_rows b))
           go [] there known = refl
@@ -73,12 +77,14 @@ module _ (catalog : Catalog) (graph : Graph) (instance : InstanceRows) (sound : 
               (go cs (λ d k. there d (inr k)) (λ d k. known d (inr k)))
               ∙ sym (same_cons (value_at (row_at rows a) c) (value_at (row_at outer_rows b) c) (values_at cs (row_at rows a)) (values_at cs (row_at outer_rows b)))
 
-    plain_all : (tuple : Tuple) (conditions : List SqlCondition) → list_all (λ conjunct. conjunct_holds catalog instance conjunct tuple) (map Plain conditions) ≡ list_all (holds catalog tuple) conditions
+    plain_all : (tuple : Tuple) (conditions : List SqlCondition) → list_all (λ conjunct. conjunct_holds catalog instance conjunct tuple) (map Plain conditions)
+        ≡ list_all (holds catalog tuple) conditions
     plain_all tuple [] = refl
     plain_all tuple (c ∷ cs) = ap₂ (λ a b. a && b) (ap (λ f. f tuple) (plain_means catalog instance c)) (plain_all tuple cs)
 
     -- NOT EXISTS of a candidate is True exactly where no rows of its places pass and have the ends
-    module _ (own : Laid) (laid : IsBlockLaid catalog graph 83 (singletons_of own.path) (own ∷ []) None (one_column ∷ [])) (some : 1 ≤ length own.spots) (some_outside : 1 ≤ length outside)
+    module _ (own : Laid) (laid : IsBlockLaid catalog graph 83 (singletons_of own.path) (own ∷ []) None (one_column ∷ [])) (some : 1 ≤ length own.spots)
+        (some_outside : 1 ≤ length outside)
         (first_same : element_at graph (spot_at outside 0) ≡ element_at graph (spot_at own.spots 0))
         (last_same : element_at graph (spot_at outside (last_place outside)) ≡ element_at graph (spot_at own.spots (last_place own.spots))) where
       abbrev passes : List RowValues → Bool
@@ -96,23 +102,29 @@ module _ (catalog : Catalog) (graph : Graph) (instance : InstanceRows) (sound : 
           ≡ has_key_of graph (spot_at own.spots k) k (row_at outer_rows (spot_at outside l)) (map (row_at rows) own.spots)
       key_at tuple rows shows under k l below low same =
           across tuple rows own.spots shows under (spot_at own.spots k) (spot_at outside l) (in_at own.spots k no_spot below) (in_at outside l no_spot low) same
-          ∙ ap (λ row. same_values (values_at (element_at graph (spot_at own.spots k)).key row) (values_at (element_at graph (spot_at own.spots k)).key (row_at outer_rows (spot_at outside l))))
+          ∙ ap (λ row. same_values (values_at (element_at graph (spot_at own.spots k)).key row)
+          (values_at (element_at graph (spot_at own.spots k)).key (row_at outer_rows (spot_at outside l))))
           (sym (get_or-map (row_at rows) own.spots k no_spot [] below))
 
       pub candidate_means : conjunct_holds catalog instance (NotExists (candidate_select catalog graph own outside)) outer
           ≡ not (list_any (λ rows. passes rows && ends rows) (combinations (map (λ spot. rows_of instance (element_at graph spot)) (laid_spots (own ∷ [])))))
       candidate_means =
           ap (λ f. f outer) (not_exists_means catalog instance (candidate_select catalog graph own outside))
-          ∙ ap has_none (block_besides catalog graph instance 83 (singletons_of own.path) (own ∷ []) None (one_column ∷ []) sound graph_in fits laid [] (map Plain (ends_across catalog graph own.spots outside)) ends outer say)
-          ∙ none_of (block_row graph instance (own ∷ []) (one_column ∷ [])) (λ rows. passes rows && ends rows) (combinations (map (λ spot. rows_of instance (element_at graph spot)) (laid_spots (own ∷ []))))
+          ∙ ap has_none (block_besides catalog graph instance 83 (singletons_of own.path) (own ∷ []) None (one_column ∷ []) sound graph_in fits laid []
+          (map Plain (ends_across catalog graph own.spots outside)) ends outer say)
+          ∙ none_of (block_row graph instance (own ∷ []) (one_column ∷ [])) (λ rows. passes rows && ends rows)
+          (combinations (map (λ spot. rows_of instance (element_at graph spot)) (laid_spots (own ∷ []))))
         where
           say_own : (rows : List RowValues) (tuple : Tuple) → Shows catalog graph instance 83 (leaf_value catalog tuple) rows own.spots → IsUnder catalog 83 outer tuple
               → list_all (λ conjunct. conjunct_holds catalog instance conjunct tuple) (map Plain (ends_across catalog graph own.spots outside)) ≡ ends (map (row_at rows) own.spots)
           say_own rows tuple shows under =
               plain_all tuple (ends_across catalog graph own.spots outside)
-              ∙ list_all-append (holds catalog tuple) (key_across catalog graph (spot_at own.spots 0) (spot_at outside 0)) (key_across catalog graph (spot_at own.spots (last_place own.spots)) (spot_at outside (last_place outside)))
+              ∙ list_all-append (holds catalog tuple) (key_across catalog graph (spot_at own.spots 0) (spot_at outside 0))
+              (key_across catalog graph (spot_at own.spots (last_place own.spots)) (spot_at outside (last_place outside)))
               ∙ ap₂ (λ a b. a && b) (key_at tuple rows shows under 0 0 some some_outside first_same)
               (key_at tuple rows shows under (last_place own.spots) (last_place outside) (omega (arith, some)) (omega (arith, some_outside)) last_same)
 
-          say : Rattle.path_lowering.specs.Selects.SayBesides catalog graph instance 83 (laid_spots (own ∷ [])) outer [] (map Plain (ends_across catalog graph own.spots outside)) ends
-          say = subst (λ spots. Rattle.path_lowering.specs.Selects.SayBesides catalog graph instance 83 spots outer [] (map Plain (ends_across catalog graph own.spots outside)) ends) (sym (append-nil own.spots)) say_own
+          say : Rattle.path_lowering.specs.Selects.SayBesides catalog graph instance 83 (laid_spots (own ∷ [])) outer []
+              (map Plain (ends_across catalog graph own.spots outside)) ends
+          say = subst (λ spots. Rattle.path_lowering.specs.Selects.SayBesides catalog graph instance 83 spots outer [] (map Plain (ends_across catalog graph own.spots outside))
+              ends) (sym (append-nil own.spots)) say_own

@@ -54,17 +54,20 @@ module _ (catalog : Catalog) (graph : Graph) (prefix : ℕ) (valid : IsValidGrap
   BecomesFine c =
       (holding : List ℕ → Option Spot) → ((name : List ℕ) (spot : Spot) → holding name ≡ Some spot → IsIn spot spots) → fine (lowered catalog graph prefix holding c) ≡ true
 
-  choice_fine : (path : CheckedPath) (part : PathBlock) (items : List ℕ) (some : List Spot) → some ≡ spots_along Vertex part.elements items → length part.elements ≤ length items → IsPart graph path part
+  choice_fine : (path : CheckedPath) (part : PathBlock) (items : List ℕ) (some : List Spot) → some ≡ spots_along Vertex part.elements items
+      → length part.elements ≤ length items → IsPart graph path part
       → ((spot : Spot) → IsIn spot some → IsIn spot spots) → (choice : Alternative) → IsIn choice part.alternatives
       → ((scoped : Scoped) → IsIn scoped (expansion_of path choice).conditions → BecomesFine scoped.condition)
       → list_all fine (choice_conditions catalog graph prefix (expansion_of path choice) some) ≡ true
   choice_fine path part items some is many ok among choice h scoped_fine =
-      append_fine fine (flat_map (piece_conditions catalog graph prefix some) (expansion_of path choice).pieces) (map (scoped_condition catalog graph prefix some) (expansion_of path choice).conditions)
+      append_fine fine (flat_map (piece_conditions catalog graph prefix some) (expansion_of path choice).pieces)
+      (map (scoped_condition catalog graph prefix some) (expansion_of path choice).conditions)
       (pieces_fine catalog graph prefix valid fine spots accepts some among (expansion_of path choice).edges
       (λ i low. subst (λ (s : List Spot). Seat s (2 * i) Vertex) (sym is) (vertex_seat part.elements items i (omega (arith, ok.sized choice h)) many))
       (λ i low. subst (λ (s : List Spot). Seat s (2 * i + 1) Edge) (sym is) (edge_seat part.elements items i (omega (arith, ok.sized choice h)) many))
       0 (flat_map (λ iteration. iteration.pieces) (iterations (operand_at path choice.operand).steps choice.counts)) (omega arith)
-      (ap (λ numbers. list_all (may_meet_piece graph numbers) (expansion_of path choice).pieces) (ap numbers_at is ∙ numbers_along Vertex part.elements items many) ∙ (and_parts _ _ (ok.feasible choice h)).0))
+      (ap (λ numbers. list_all (may_meet_piece graph numbers) (expansion_of path choice).pieces) (ap numbers_at is ∙ numbers_along Vertex part.elements items many)
+      ∙ (and_parts _ _ (ok.feasible choice h)).0))
       (map_fine fine (scoped_condition catalog graph prefix some) (expansion_of path choice).conditions
       (λ scoped k. scoped_fine scoped k (spot_in scoped.scope some) (λ name spot e. among spot (scope_within scoped.scope some name spot e))))
 
@@ -74,7 +77,8 @@ module _ (catalog : Catalog) (graph : Graph) (prefix : ℕ) (valid : IsValidGrap
     pub record IsMade (laid : Laid) : Type 0 where
       pub some : 1 ≤ length laid.part.alternatives
       pub conditions : laid.conditions ≡ combined (alternatives_of catalog graph prefix laid.path laid.part laid.spots)
-      pub scoped : (choice : Alternative) → IsIn choice laid.part.alternatives → (scoped : Scoped) → IsIn scoped (expansion_of laid.path choice).conditions → BecomesFine scoped.condition
+      pub scoped : (choice : Alternative) → IsIn choice laid.part.alternatives → (scoped : Scoped) → IsIn scoped (expansion_of laid.path choice).conditions
+          → BecomesFine scoped.condition
 
     module _ (made : (laid : Laid) → IsIn laid parts → IsMade laid) (last : (c : Condition) → condition ≡ Some c → BecomesFine c) where
       within : (laid : Laid) → IsIn laid parts → (spot : Spot) → IsIn spot laid.spots → IsIn spot spots
@@ -93,7 +97,8 @@ module _ (catalog : Catalog) (graph : Graph) (prefix : ℕ) (valid : IsValidGrap
       last_fine : (c : Option Condition) → c ≡ condition → list_all fine (where_for catalog graph prefix (laid_tags parts) (laid_spots parts) c) ≡ true
       last_fine None e = refl
       last_fine (Some c) e =
-          and_join _ _ (last c (sym e) (spot_by (laid_tags parts) (laid_spots parts)) (λ name spot k. subst (IsIn spot) (sym spots_are) (tags_within (laid_tags parts) (laid_spots parts) name spot k))) refl
+          and_join _ _ (last c (sym e) (spot_by (laid_tags parts) (laid_spots parts))
+          (λ name spot k. subst (IsIn spot) (sym spots_are) (tags_within (laid_tags parts) (laid_spots parts) name spot k))) refl
 
       pub block_fine : list_all fine (block_conditions catalog graph prefix names parts condition) ≡ true
       block_fine =
@@ -102,7 +107,8 @@ module _ (catalog : Catalog) (graph : Graph) (prefix : ℕ) (valid : IsValidGrap
           (flat_fine fine (λ laid. laid.conditions ++ mode_conditions catalog graph prefix laid.path.mode laid.spots) parts
           (λ laid h. append_fine fine laid.conditions (mode_conditions catalog graph prefix laid.path.mode laid.spots) (alternatives_fine laid h)
           (modes_fine catalog graph prefix valid fine spots accepts laid.path.mode laid.spots (within laid h))))
-          (append_fine fine (sharing_conditions catalog graph prefix names (laid_tags parts) (laid_spots parts)) (where_for catalog graph prefix (laid_tags parts) (laid_spots parts) condition)
+          (append_fine fine (sharing_conditions catalog graph prefix names (laid_tags parts) (laid_spots parts))
+          (where_for catalog graph prefix (laid_tags parts) (laid_spots parts) condition)
           (subst (λ (s : List Spot). list_all fine (sharing_conditions catalog graph prefix names (laid_tags parts) s) ≡ true) spots_are
           (sharing_fine catalog graph prefix valid fine spots accepts names (laid_tags parts)
           (ap (λ s. agree nat_eq names (laid_tags parts) (map (λ x. x.element) s)) spots_are ∙ ok.numbers)

@@ -1,5 +1,6 @@
 -- The conditions of a block are made of comparisons of columns of one class: what holds of these, and is kept by AND and OR, holds of all.
-use Rattle.std.proofs.Common.{◌≡◌, ℕ, suc, ◌+◌, ◌-◌, ◌*◌, ◌<◌, ◌≤◌, Bool, true, false, ◌&&◌, not, cond, List, [], ◌∷◌, ◌++◌, map, filter, flat_map, length, refl, sym, ap, ap₂, subst, ◌∙◌, inl, inr, nat_eq, None, Some, option_map, arith}
+use Rattle.std.proofs.Common.{◌≡◌, ℕ, suc, ◌+◌, ◌-◌, ◌*◌, ◌<◌, ◌≤◌, Bool, true, false, ◌&&◌, not, cond, List, [], ◌∷◌, ◌++◌, map, filter, flat_map, length, refl, sym, ap, ap₂}
+use Rattle.std.proofs.Common.{subst, ◌∙◌, inl, inr, nat_eq, None, Some, option_map, arith}
 use Rattle.std.specs.Prelude.{slice_get}
 use Rattle.std.specs.List.{list_all, list_any}
 use Rattle.std.proofs.lemmas.Bool.{and_parts, eqb-true}
@@ -36,8 +37,10 @@ use Rattle.path_lowering.specs.declared.spots.Kind.{Kind}
 use Rattle.path_lowering.specs.declared.spots.Kind.TheVariants.{Vertex, Edge}
 use Rattle.path_lowering.specs.declared.spots.Spot.{Spot}
 use Rattle.path_lowering.specs.Spots.{element_of_kind, element_at, same_kind}
-use Rattle.path_lowering.specs.Emitted.{SqlCondition, any_of, all_of, goes_right, goes_left, leaf_of, compared_columns, meets_end, leads_from, edge_conditions, read_either, between}
-use Rattle.path_lowering.specs.Emitted.{piece_conditions, differing, all_differing, simply_differing, edge_spots, vertex_spots, is_edge_spot, is_vertex_spot, mode_conditions, same_key, all_same_key, sharing_conditions}
+use Rattle.path_lowering.specs.Emitted.{SqlCondition, any_of, all_of, goes_right, goes_left, leaf_of, compared_columns, meets_end, leads_from, edge_conditions, read_either}
+use Rattle.path_lowering.specs.Emitted.{between}
+use Rattle.path_lowering.specs.Emitted.{piece_conditions, differing, all_differing, simply_differing, edge_spots, vertex_spots, is_edge_spot, is_vertex_spot, mode_conditions}
+use Rattle.path_lowering.specs.Emitted.{same_key, all_same_key, sharing_conditions}
 use Rattle.path_lowering.specs.Shown.{count_of_kind}
 use Rattle.path_lowering.specs.Blocks.{is_empty, shared_outside}
 use Rattle.path_lowering.specs.Apart.{is_in_all, without, apart}
@@ -52,7 +55,8 @@ use Rattle.path_lowering.proofs.SharingLemmas.{kind_same}
 pub append_fine : (fine : SqlCondition → Bool) (xs ys : List SqlCondition) → list_all fine xs ≡ true → list_all fine ys ≡ true → list_all fine (xs ++ ys) ≡ true
 append_fine fine xs ys p q = list_all-append fine xs ys ∙ and_join _ _ p q
 
-pub flat_fine : {X : Type 0} (fine : SqlCondition → Bool) (f : X → List SqlCondition) (xs : List X) → ((x : X) → IsIn x xs → list_all fine (f x) ≡ true) → list_all fine (flat_map f xs) ≡ true
+pub flat_fine : {X : Type 0} (fine : SqlCondition → Bool) (f : X → List SqlCondition) (xs : List X) → ((x : X) → IsIn x xs → list_all fine (f x) ≡ true)
+    → list_all fine (flat_map f xs) ≡ true
 flat_fine fine f [] h = refl
 flat_fine fine f (x ∷ xs) h = append_fine fine (f x) (flat_map f xs) (h x (inl refl)) (flat_fine fine f xs (λ y k. h y (inr k)))
 
@@ -86,7 +90,8 @@ module _ (fine : SqlCondition → Bool) (all : (es : List SqlCondition) → 2 �
           append_fine fine common (any_of (map all_of rests) ∷ []) c
           (and_join _ _ (any_of_fine (map all_of rests) (subst (λ n. 1 ≤ n) (sym (Rattle.std.proofs.Math.ListN.length-map rests all_of)) some) (rests_fine rests e h)) refl)
 
-  withouts_fine : (common : List SqlCondition) (others : List (List SqlCondition)) → list_all (list_all fine) others ≡ true → list_all (list_all fine) (map (without common) others) ≡ true
+  withouts_fine : (common : List SqlCondition) (others : List (List SqlCondition)) → list_all (list_all fine) others ≡ true
+      → list_all (list_all fine) (map (without common) others) ≡ true
   withouts_fine common [] h = refl
   withouts_fine common (other ∷ others) h =
       let p = and_parts (list_all fine other) (list_all (list_all fine) others) h in and_join _ _ (filter_fine fine _ other p.0) (withouts_fine common others p.1)
@@ -131,7 +136,8 @@ same_all same tells (z ∷ zs) h x y p q = sym (at x p) ∙ at y q
 alike_at : {X : Type 0} (same : X → X → Bool) (is : (x y : X) → same x y ≡ true → x ≡ y) (f : Spot → X) (names : List (List ℕ)) (tags : List Tags) (spots : List Spot)
     → agree same names tags (map f spots) ≡ true → (name : List ℕ) → IsIn name names → (a b : Spot) → IsIn a (tagged name tags spots) → IsIn b (tagged name tags spots) → f a ≡ f b
 alike_at same is f names tags spots all name there a b h k =
-    let own : all_same same (map f (tagged name tags spots)) ≡ true = ap (all_same same) (sym (tagged_map f name tags spots)) ∙ each_of (λ n. all_same same (tagged n tags (map f spots))) names all name there in
+    let own : all_same same (map f (tagged name tags spots)) ≡ true = ap (all_same same) (sym (tagged_map f name tags spots))
+    ∙ each_of (λ n. all_same same (tagged n tags (map f spots))) names all name there in
     same_all same is (map f (tagged name tags spots)) own (f a) (f b) (in_map f a (tagged name tags spots) h) (in_map f b (tagged name tags spots) k)
 
 module _ (catalog : Catalog) (graph : Graph) (prefix : ℕ) (valid : IsValidGraph catalog graph) (fine : SqlCondition → Bool) (spots : List Spot) where
@@ -178,7 +184,8 @@ module _ (catalog : Catalog) (graph : Graph) (prefix : ℕ) (valid : IsValidGrap
       below = subst (λ k. edge.element < count_of_kind graph k) kind (accepts.there edge h)
 
       own_in : IsIn own graph.edges
-      own_in = in_at graph.edges edge.element (record { element = no_element; source = record { columns = []; vertex = 0 }; destination = record { columns = []; vertex = 0 } }) below
+      own_in = in_at graph.edges edge.element (record { element = no_element; source = record { columns = []; vertex = 0 }; destination = record { columns = []; vertex = 0 } })
+          below
 
       element_is : element_at graph edge ≡ own.element
       element_is = ap (λ k. element_of_kind graph k edge.element) kind
@@ -217,14 +224,18 @@ module _ (catalog : Catalog) (graph : Graph) (prefix : ℕ) (valid : IsValidGrap
           → allows direction (may_lead own (Some left.element) (Some right.element)) (may_lead own (Some right.element) (Some left.element)) ≡ true
           → list_all fine (edge_conditions catalog graph prefix direction left edge right) ≡ true
       edge_fine direction left right left_kind right_kind left_in right_in may =
-          go (goes_right direction && may_lead own (Some left.element) (Some right.element)) (goes_left direction && may_lead own (Some right.element) (Some left.element)) refl refl
+          go (goes_right direction && may_lead own (Some left.element) (Some right.element)) (goes_left direction && may_lead own (Some right.element) (Some left.element)) refl
+          refl
         where
-          go : (r l : Bool) → (goes_right direction && may_lead own (Some left.element) (Some right.element)) ≡ r → (goes_left direction && may_lead own (Some right.element) (Some left.element)) ≡ l
+          go : (r l : Bool) → (goes_right direction && may_lead own (Some left.element) (Some right.element)) ≡ r
+              → (goes_left direction && may_lead own (Some right.element) (Some left.element)) ≡ l
               → list_all fine (read_either r l (leads_from catalog graph prefix left edge right) (leads_from catalog graph prefix right edge left)) ≡ true
           go true true e f =
               and_join _ _ (accepts.any _ (omega arith)
-              (and_join _ _ (accepts.all _ (leads_two left right left_kind right_kind left_in right_in) (leads_fine left right left_kind right_kind left_in right_in (and_parts _ _ e).1))
-              (and_join _ _ (accepts.all _ (leads_two right left right_kind left_kind right_in left_in) (leads_fine right left right_kind left_kind right_in left_in (and_parts _ _ f).1)) refl))) refl
+              (and_join _ _ (accepts.all _ (leads_two left right left_kind right_kind left_in right_in)
+              (leads_fine left right left_kind right_kind left_in right_in (and_parts _ _ e).1))
+              (and_join _ _ (accepts.all _ (leads_two right left right_kind left_kind right_in left_in)
+              (leads_fine right left right_kind left_kind right_in left_in (and_parts _ _ f).1)) refl))) refl
           go true false e f = leads_fine left right left_kind right_kind left_in right_in (and_parts _ _ e).1
           go false l e f =
               leads_fine right left right_kind left_kind right_in left_in
@@ -239,14 +250,17 @@ module _ (catalog : Catalog) (graph : Graph) (prefix : ℕ) (valid : IsValidGrap
       seat_in place kind seat = among seat.spot (got_in some place seat.spot seat.at)
 
       between_fine : (place : ℕ) (direction : Direction) (pattern : Pattern) → Seat some (place - 1) Vertex → Seat some place Edge → Seat some (place + 1) Vertex
-          → may_meet_piece graph (numbers_at some) (place, form.Edge direction pattern) ≡ true → list_all fine (piece_conditions catalog graph prefix some (place, form.Edge direction pattern)) ≡ true
+          → may_meet_piece graph (numbers_at some) (place, form.Edge direction pattern) ≡ true
+          → list_all fine (piece_conditions catalog graph prefix some (place, form.Edge direction pattern)) ≡ true
       between_fine place direction pattern left edge right may =
           let is = sym (ap (λ o. elim o [ None ↦ true | Some n ↦ may_meet graph (numbers_at some) place (form.Edge direction pattern) n ]) (number_there place Edge edge)
-          ∙ ap₂ (λ l r. holds_where_given (edge_element graph edge.spot.element).element.labels pattern.label && allows direction (may_lead (edge_element graph edge.spot.element) l r) (may_lead (edge_element graph edge.spot.element) r l))
+          ∙ ap₂ (λ l r. holds_where_given (edge_element graph edge.spot.element).element.labels pattern.label
+          && allows direction (may_lead (edge_element graph edge.spot.element) l r) (may_lead (edge_element graph edge.spot.element) r l))
           (number_there (place - 1) Vertex left) (number_there (place + 1) Vertex right)) ∙ may in
           ap₂ (λ l r. list_all fine (between catalog graph prefix direction l (slice_get some place) r)) left.at right.at
           ∙ ap (λ o. list_all fine (between catalog graph prefix direction (Some left.spot) o (Some right.spot))) edge.at
-          ∙ edge_fine edge.spot edge.kind_is (seat_in place Edge edge) direction left.spot right.spot left.kind_is right.kind_is (seat_in (place - 1) Vertex left) (seat_in (place + 1) Vertex right) (and_parts _ _ is).1
+          ∙ edge_fine edge.spot edge.kind_is (seat_in place Edge edge) direction left.spot right.spot left.kind_is right.kind_is (seat_in (place - 1) Vertex left)
+          (seat_in (place + 1) Vertex right) (and_parts _ _ is).1
 
       module _ (edges : ℕ) (vertex_seat : (i : ℕ) → i ≤ edges → Seat some (2 * i) Vertex) (edge_seat : (i : ℕ) → i < edges → Seat some (2 * i + 1) Edge) where
         pub pieces_fine : (j : ℕ) (pieces : List Piece) → j + edges_in pieces ≤ edges → list_all (may_meet_piece graph (numbers_at some)) (placed j pieces) ≡ true
@@ -254,7 +268,8 @@ module _ (catalog : Catalog) (graph : Graph) (prefix : ℕ) (valid : IsValidGrap
         pieces_fine j [] within may = refl
         pieces_fine j (form.Vertex pattern ∷ pieces) within may = pieces_fine j pieces within (and_parts _ _ may).1
         pieces_fine j (form.Edge direction pattern ∷ pieces) within may =
-            append_fine fine (piece_conditions catalog graph prefix some (2 * j + 1, form.Edge direction pattern)) (flat_map (piece_conditions catalog graph prefix some) (placed (suc j) pieces))
+            append_fine fine (piece_conditions catalog graph prefix some (2 * j + 1, form.Edge direction pattern))
+            (flat_map (piece_conditions catalog graph prefix some) (placed (suc j) pieces))
             (between_fine (2 * j + 1) direction pattern (subst (λ n. Seat some n Vertex) (omega arith) (vertex_seat j (omega arith))) (edge_seat j (omega arith))
             (subst (λ n. Seat some n Vertex) (omega arith) (vertex_seat (suc j) (omega arith))) (and_parts _ _ may).0)
             (pieces_fine (suc j) pieces (omega arith) (and_parts _ _ may).1)
@@ -272,7 +287,8 @@ module _ (catalog : Catalog) (graph : Graph) (prefix : ℕ) (valid : IsValidGrap
         go : (b : Bool) → nat_eq x.element y.element ≡ b
             → list_all fine (cond b (any_of (compared_columns catalog graph prefix NotEqual x (element_at graph x).key y (element_at graph y).key) ∷ []) []) ≡ true
         go true e =
-            and_join _ _ (any_of_fine fine accepts.all accepts.any _ (some_pair NotEqual x y (element_at graph x).key (element_at graph y).key (element_ok x p).key.some (element_ok y q).key.some)
+            and_join _ _ (any_of_fine fine accepts.all accepts.any _ (some_pair NotEqual x y (element_at graph x).key (element_at graph y).key (element_ok x p).key.some
+            (element_ok y q).key.some)
             (twice_there x y p q (ap₂ (element_of_kind graph) kind (eqb-true _ _ e)) NotEqual)) refl
         go false e = refl
 
@@ -334,7 +350,8 @@ module _ (catalog : Catalog) (graph : Graph) (prefix : ℕ) (valid : IsValidGrap
     all_same_key_fine (x ∷ xs) among same =
         flat_fine fine (same_key catalog graph prefix x) xs (λ y k. same_key_fine x y (among x (inl refl)) (among y (inr k)) (same x y (inl refl) (inr k)))
 
-    pub sharing_fine : (names : List (List ℕ)) (tags : List Tags) → agree nat_eq names tags (map (λ s. s.element) spots) ≡ true → agree same_kind names tags (map (λ s. s.kind) spots) ≡ true
+    pub sharing_fine : (names : List (List ℕ)) (tags : List Tags) → agree nat_eq names tags (map (λ s. s.element) spots) ≡ true
+        → agree same_kind names tags (map (λ s. s.kind) spots) ≡ true
         → list_all fine (sharing_conditions catalog graph prefix names tags spots) ≡ true
     sharing_fine names tags numbers kinds =
         flat_fine fine (λ name. all_same_key catalog graph prefix (tagged name tags spots)) names

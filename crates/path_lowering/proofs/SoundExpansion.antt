@@ -30,7 +30,8 @@ from_iterated j (i ∷ more) scoped h =
     ]
 
 -- the conditions of an iteration are those of a step
-from_iterations : (steps : List Step) (counts : List ℕ) (c : Condition) → IsIn c (flat_map (λ iteration. iteration.conditions) (iterations steps counts)) → IsIn c (flat_map conditions_in steps)
+from_iterations : (steps : List Step) (counts : List ℕ) (c : Condition) → IsIn c (flat_map (λ iteration. iteration.conditions) (iterations steps counts))
+    → IsIn c (flat_map conditions_in steps)
 from_iterations [] counts c h = absurd h
 from_iterations (One one ∷ steps) counts c h = from_iterations steps counts c h
 from_iterations (Part lower upper pieces conditions ∷ steps) [] c h = absurd h
@@ -50,13 +51,15 @@ from_operand [] place c h = absurd h
 from_operand (operand ∷ operands) zero c h = in_append c (operand_conditions operand) (flat_map operand_conditions operands) (inl h)
 from_operand (operand ∷ operands) (suc place) c h = in_append c (operand_conditions operand) (flat_map operand_conditions operands) (inr (from_operand operands place c h))
 
-pub condition_among : (path : CheckedPath) (choice : Alternative) (scoped : Scoped) → IsIn scoped (expansion_of path choice).conditions → IsIn scoped.condition (path_conditions path)
+pub condition_among : (path : CheckedPath) (choice : Alternative) (scoped : Scoped) → IsIn scoped (expansion_of path choice).conditions
+    → IsIn scoped.condition (path_conditions path)
 condition_among path choice scoped h =
     let operand : Operand = operand_at path choice.operand in
     let parts : List Iteration = iterations operand.steps choice.counts in
     let whole : List PlacedPiece = placed 0 (flat_map (λ part. part.pieces) parts) in
     from_operand path.operands choice.operand scoped.condition
     (elim (in_parts scoped (iterated 0 parts) (scoped_by whole operand.conditions) h) [
-      | inl k ↦ in_append scoped.condition (flat_map conditions_in operand.steps) operand.conditions (inl (from_iterations operand.steps choice.counts scoped.condition (from_iterated 0 parts scoped k)))
+      | inl k ↦ in_append scoped.condition (flat_map conditions_in operand.steps) operand.conditions
+          (inl (from_iterations operand.steps choice.counts scoped.condition (from_iterated 0 parts scoped k)))
       | inr k ↦ in_append scoped.condition (flat_map conditions_in operand.steps) operand.conditions (inr (from_scoped whole operand.conditions scoped k))
     ])

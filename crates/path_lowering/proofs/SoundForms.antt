@@ -49,10 +49,12 @@ module _ (catalog : Catalog) (reach : Reach) where
 
   pub truth_sound : (b : Bool) → condition_is_sound catalog reach (Lit (value.Truth b)) ≡ true
   truth_sound b =
-      condition_from (Lit (value.Truth b)) [] (on-Lit leaves_step (value.Truth b)) refl (ap (λ j. j.kept) (on-Lit (judged_step leaf_class) (value.Truth b))) (on-Lit (class_step leaf_class) (value.Truth b))
+      condition_from (Lit (value.Truth b)) [] (on-Lit leaves_step (value.Truth b)) refl (ap (λ j. j.kept) (on-Lit (judged_step leaf_class) (value.Truth b)))
+      (on-Lit (class_step leaf_class) (value.Truth b))
 
   -- a comparison of two columns of one class
-  pub pair_sound : (op : Comparison) (a b : ColumnLeaf) → sound a ≡ true → sound b ≡ true → a.class ≡ b.class → condition_is_sound catalog reach (Compare op (Leaf a) (Leaf b)) ≡ true
+  pub pair_sound : (op : Comparison) (a b : ColumnLeaf) → sound a ≡ true → sound b ≡ true → a.class ≡ b.class → condition_is_sound catalog reach (Compare op (Leaf a) (Leaf b))
+      ≡ true
   pair_sound op a b p q same =
       condition_from (Compare op (Leaf a) (Leaf b)) (a ∷ b ∷ [])
       (on-Compare leaves_step op (Leaf a) (Leaf b) ∙ ap₂ (λ x y. x ++ y) (on-Leaf leaves_step a) (on-Leaf leaves_step b))
@@ -62,7 +64,8 @@ module _ (catalog : Catalog) (reach : Reach) where
       ∙ ap (λ c. same_class a.class c) (sym same) ∙ same_self a.class)
       (on-Compare (class_step leaf_class) op (Leaf a) (Leaf b))
 
-  parts_of : (e : SqlCondition) → condition_is_sound catalog reach e ≡ true → (list_all sound (leaves_in e) ≡ true) × (well_classed leaf_class e ≡ true) × (same_class class.Truth (class_in leaf_class e) ≡ true)
+  parts_of : (e : SqlCondition) → condition_is_sound catalog reach e ≡ true → (list_all sound (leaves_in e) ≡ true) × (well_classed leaf_class e ≡ true)
+      × (same_class class.Truth (class_in leaf_class e) ≡ true)
   parts_of e h = let p = and_parts (value_is_sound catalog reach e) (same_class class.Truth (class_in leaf_class e)) h in let q = and_parts _ _ p.0 in (q.0, q.1, p.1)
 
   joined_sound : (es : List SqlCondition) → list_all (condition_is_sound catalog reach) es ≡ true → list_all sound (joined (map leaves_in es)) ≡ true
@@ -76,7 +79,8 @@ module _ (catalog : Catalog) (reach : Reach) where
   kept_all (e ∷ es) h =
       let p = and_parts (condition_is_sound catalog reach e) (list_all (condition_is_sound catalog reach) es) h in and_join _ _ (parts_of e p.0).1 (kept_all es p.1)
 
-  class_all : (es : List SqlCondition) → list_all (condition_is_sound catalog reach) es ≡ true → list_all (same_class class.Truth) (map (λ j. j.class) (map (judged leaf_class) es)) ≡ true
+  class_all : (es : List SqlCondition) → list_all (condition_is_sound catalog reach) es ≡ true
+      → list_all (same_class class.Truth) (map (λ j. j.class) (map (judged leaf_class) es)) ≡ true
   class_all [] h = refl
   class_all (e ∷ es) h =
       let p = and_parts (condition_is_sound catalog reach e) (list_all (condition_is_sound catalog reach) es) h in
@@ -107,7 +111,8 @@ module _ (catalog : Catalog) (reach : Reach) where
     pub mapped_value_sound : (e : Expr L) → EachLeaf StandsFor e → well_classed own e ≡ true → value_is_sound catalog reach (mapped to e) ≡ true
     mapped_value_sound e each well =
         value_from (mapped to e) (flat_map (λ l. leaves_in (to l)) (leaves_in e)) (mapped_leaves to e) (leaves_sound (leaves_in e) each)
-        (mapped_rules own leaf_class to e (each_implies StandsFor (KeepsClass own leaf_class to) (λ l h. record { well_classed = (and_parts _ _ h.sound).1; class = h.class }) (leaves_in e) each) ∙ well)
+        (mapped_rules own leaf_class to e (each_implies StandsFor (KeepsClass own leaf_class to) (λ l h. record { well_classed = (and_parts _ _ h.sound).1; class = h.class })
+        (leaves_in e) each) ∙ well)
 
     pub mapped_class_is : (e : Expr L) → EachLeaf StandsFor e → class_in leaf_class (mapped to e) ≡ class_in own e
     mapped_class_is e each = mapped_class own leaf_class to e (each_implies StandsFor (λ l. class_in leaf_class (to l) ≡ own l) (λ l h. h.class) (leaves_in e) each)

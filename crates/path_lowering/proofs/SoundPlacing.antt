@@ -1,5 +1,6 @@
 -- Conditions that are sound in the reach of a whole FROM are sound where they are placed.
-use Rattle.std.proofs.Common.{◌≡◌, ℕ, suc, ◌<◌, ◌≤◌, Bool, true, false, ◌&&◌, cond, List, [], ◌∷◌, ◌++◌, map, length, refl, sym, ap, ◌∙◌, inl, inr, Option, None, Some, ◌⊎◌, bytes_eq, nat_eq, nat_lt, arith, append_assoc}
+use Rattle.std.proofs.Common.{◌≡◌, ℕ, suc, ◌<◌, ◌≤◌, Bool, true, false, ◌&&◌, cond, List, [], ◌∷◌, ◌++◌, map, length, refl, sym, ap, ◌∙◌, inl, inr, Option, None, Some, ◌⊎◌}
+use Rattle.std.proofs.Common.{bytes_eq, nat_eq, nat_lt, arith, append_assoc}
 use Rattle.std.specs.Prelude.{find}
 use Rattle.std.proofs.lemmas.List.{length-append}
 use Rattle.std.proofs.Math.ListN.{length-map}
@@ -55,8 +56,10 @@ module _ (catalog : Catalog) (outer : Reach) (leaf : ColumnLeaf) where
   near (x ∷ xs) rest h = go (bytes_eq x.alias leaf.alias) h (near xs rest)
     where
       go : (b : Bool)
-          → (cond b 0 (suc (place_of leaf.alias (alias_in (xs ++ rest)))) < suc (length xs)) ⊎ (suc (length (xs ++ rest)) ≤ cond b 0 (suc (place_of leaf.alias (alias_in (xs ++ rest)))))
-          → ((place_of leaf.alias (alias_in (xs ++ rest)) < length xs) ⊎ (length (xs ++ rest) ≤ place_of leaf.alias (alias_in (xs ++ rest))) → seen (xs ++ outer) ≡ seen ((xs ++ rest) ++ outer))
+          → (cond b 0 (suc (place_of leaf.alias (alias_in (xs ++ rest)))) < suc (length xs)) ⊎
+          (suc (length (xs ++ rest)) ≤ cond b 0 (suc (place_of leaf.alias (alias_in (xs ++ rest)))))
+          → ((place_of leaf.alias (alias_in (xs ++ rest)) < length xs) ⊎ (length (xs ++ rest) ≤ place_of leaf.alias (alias_in (xs ++ rest))) → seen (xs ++ outer)
+          ≡ seen ((xs ++ rest) ++ outer))
           → item_has catalog leaf (cond b (Some x) (found leaf (xs ++ outer))) ≡ item_has catalog leaf (cond b (Some x) (found leaf ((xs ++ rest) ++ outer)))
       go true k more = refl
       go false (inl k) more = more (inl (omega arith))
@@ -93,10 +96,12 @@ from_aliases [] conditions = refl
 from_aliases (s ∷ ss) conditions = ap (λ l. s.alias ∷ l) (joined_aliases (map (λ source. source.alias) (s ∷ ss)) conditions 1 ss)
 
 -- a condition whose leaves are seen alike is sound alike
-sound_alike : (catalog : Catalog) (here there : Reach) (c : SqlCondition) → ((leaf : ColumnLeaf) → IsIn leaf (leaves_in c) → leaf_is_sound catalog here leaf ≡ leaf_is_sound catalog there leaf)
+sound_alike : (catalog : Catalog) (here there : Reach) (c : SqlCondition) → ((leaf : ColumnLeaf) → IsIn leaf (leaves_in c) → leaf_is_sound catalog here leaf
+    ≡ leaf_is_sound catalog there leaf)
     → condition_is_sound catalog here c ≡ condition_is_sound catalog there c
 sound_alike catalog here there c same =
-    ap (λ b. (b && well_classed leaf_class c) && same_class class.Truth (class_in leaf_class c)) (all-each (leaf_is_sound catalog here) (leaf_is_sound catalog there) (leaves_in c) same)
+    ap (λ b. (b && well_classed leaf_class c) && same_class class.Truth (class_in leaf_class c))
+    (all-each (leaf_is_sound catalog here) (leaf_is_sound catalog there) (leaves_in c) same)
 
 module _ (catalog : Catalog) (outer : Reach) (sources : List Source) (conditions : List SqlCondition)
     (all : list_all (condition_is_sound catalog (from_of sources conditions ++ outer)) conditions ≡ true) where
@@ -107,13 +112,15 @@ module _ (catalog : Catalog) (outer : Reach) (sources : List Source) (conditions
   aliases = map (λ source. source.alias) sources
 
   -- a condition that stands by the last of some items is sound in their reach
-  placed_sound : (chain rest : List FromItem) (number : ℕ) → chain ++ rest ≡ items → length chain ≡ suc number → (c : SqlCondition) → IsIn c conditions → latest_of aliases c ≡ number
+  placed_sound : (chain rest : List FromItem) (number : ℕ) → chain ++ rest ≡ items → length chain ≡ suc number → (c : SqlCondition) → IsIn c conditions → latest_of aliases c
+      ≡ number
       → condition_is_sound catalog (chain ++ outer) c ≡ true
   placed_sound chain rest number whole size c h latest =
       sound_alike catalog (chain ++ outer) (items ++ outer) c
       (λ leaf k. by_number catalog outer leaf chain rest number size
       (let low = greatest_above (map (item_of aliases) (leaves_in c)) (item_of aliases leaf) (in_map (item_of aliases) leaf (leaves_in c) k) in
-      let same : item_of (alias_in (chain ++ rest)) leaf ≡ item_of aliases leaf = ap (λ l. item_of (alias_in l) leaf) whole ∙ ap (λ l. item_of l leaf) (from_aliases sources conditions) in
+      let same : item_of (alias_in (chain ++ rest)) leaf ≡ item_of aliases leaf = ap (λ l. item_of (alias_in l) leaf) whole
+      ∙ ap (λ l. item_of l leaf) (from_aliases sources conditions) in
       omega (arith, low, same, latest))
       ∙ ap (λ l. item_has catalog leaf (found leaf (l ++ outer))) whole)
       ∙ each_of (condition_is_sound catalog (items ++ outer)) conditions all c h
@@ -124,7 +131,8 @@ module _ (catalog : Catalog) (outer : Reach) (sources : List Source) (conditions
       of_each (condition_is_sound catalog (chain ++ outer)) (or_true (standing_by aliases number conditions))
       (λ c h. elim (or_true_from (standing_by aliases number conditions) c h) [
         | inl e ↦ ap (condition_is_sound catalog (chain ++ outer)) e ∙ truth_sound catalog (chain ++ outer) true
-        | inr k ↦ let kept = in_kept (λ condition. nat_eq (latest_of aliases condition) number) conditions c k in placed_sound chain rest number whole size c kept.0 (eqb-true _ _ kept.1)
+        | inr k ↦ let kept = in_kept (λ condition. nat_eq (latest_of aliases condition) number) conditions c k in
+            placed_sound chain rest number whole size c kept.0 (eqb-true _ _ kept.1)
       ])
 
   chain_sound : (before : List FromItem) (number : ℕ) (some : List Source) → before ++ joined_items aliases conditions number some ≡ items → length before ≡ number
@@ -149,8 +157,10 @@ pub where_sound : (catalog : Catalog) (reach : Reach) (sources : List Source) (c
     → list_all (λ conjunct. conjunct reach) (map (conjunct_is_sound catalog) (where_of sources conditions)) ≡ true
 where_sound catalog reach sources conditions all =
     each (standing_by (map (λ source. source.alias) sources) 0 conditions)
-    (λ c h. each_of (condition_is_sound catalog reach) conditions all c (in_kept (λ condition. nat_eq (latest_of (map (λ source. source.alias) sources) condition) 0) conditions c h).0)
+    (λ c h. each_of (condition_is_sound catalog reach) conditions all c (in_kept (λ condition. nat_eq (latest_of (map (λ source. source.alias) sources) condition) 0) conditions
+    c h).0)
   where
-    each : (cs : List SqlCondition) → ((c : SqlCondition) → IsIn c cs → condition_is_sound catalog reach c ≡ true) → list_all (λ conjunct. conjunct reach) (map (conjunct_is_sound catalog) (map Plain cs)) ≡ true
+    each : (cs : List SqlCondition) → ((c : SqlCondition) → IsIn c cs → condition_is_sound catalog reach c ≡ true)
+        → list_all (λ conjunct. conjunct reach) (map (conjunct_is_sound catalog) (map Plain cs)) ≡ true
     each [] h = refl
     each (c ∷ cs) h = and_join _ _ (ap (λ f. f reach) (plain_sound catalog c) ∙ h c (inl refl)) (each cs (λ d k. h d (inr k)))

@@ -49,7 +49,8 @@ some_in [] x h = absurd h
 some_in (y ∷ ys) x h = omega arith
 
 -- a path block has an alternative
-pub some_alternative : (graph : Graph) (path : CheckedPath) (place : ℕ) (part : PathBlock) → IsIn part (path_blocks graph place path) → IsShaped graph path part → 1 ≤ length part.alternatives
+pub some_alternative : (graph : Graph) (path : CheckedPath) (place : ℕ) (part : PathBlock) → IsIn part (path_blocks graph place path) → IsShaped graph path part
+    → 1 ≤ length part.alternatives
 some_alternative graph path place part h shape =
     let made = from_map (block_of graph path place) part (shapes graph path) h in
     subst (λ (b : PathBlock). IsShaped graph path b → 1 ≤ length b.alternatives) made.2
@@ -74,7 +75,8 @@ pub record IsLaidFrom (catalog : Catalog) (graph : Graph) (prefix : ℕ) (combin
   pub conditions : laid.conditions ≡ combined (alternatives_of catalog graph prefix laid.path laid.part laid.spots)
 
 laid_from : (catalog : Catalog) (graph : Graph) (prefix : ℕ) (combined : Combining) (query : CheckedQuery) (paths : List CheckedPath) (parts : List PathBlock) (items : List ℕ)
-    → AllZip (IsChosen graph query) paths parts → (one : Laid) → IsIn one (lay_all catalog graph prefix combined paths parts items) → IsLaidFrom catalog graph prefix combined query one
+    → AllZip (IsChosen graph query) paths parts → (one : Laid) → IsIn one (lay_all catalog graph prefix combined paths parts items)
+    → IsLaidFrom catalog graph prefix combined query one
 laid_from catalog graph prefix combined query [] parts items are one h = absurd h
 laid_from catalog graph prefix combined query (path ∷ paths) [] items are one h = absurd h
 laid_from catalog graph prefix combined query (path ∷ paths) (p ∷ ps) items are one (inl e) =
@@ -112,7 +114,8 @@ module _ (catalog : Catalog) (query : CheckedQuery) (served : IsServed catalog q
         (all_chosen 0 query.paths block.paths (λ path k. k) (block_picks catalog graph valid (without_rows catalog) fits [] query block there)) one h
 
     module _ (combines : IsCombining combined) (builds : IsBuilding combined) (ok : IsSoundQuery catalog graph query) where
-      laid : (block : Block) → IsIn block (blocks graph query) → IsBlockLaid catalog graph 65 (query_singletons query) (laid_block catalog graph 65 combined query block) query.condition query.columns
+      laid : (block : Block) → IsIn block (blocks graph query) → IsBlockLaid catalog graph 65 (query_singletons query) (laid_block catalog graph 65 combined query block)
+          query.condition query.columns
       laid block there = block_laid catalog graph valid (without_rows catalog) fits query served.lowerable 65 combined combines block there
 
       made : (block : Block) (there : IsIn block (blocks graph query)) (one : Laid) → IsIn one (laid_block catalog graph 65 combined query block)
@@ -127,13 +130,15 @@ module _ (catalog : Catalog) (query : CheckedQuery) (served : IsServed catalog q
 
       block_sound : (block : Block) → IsIn block (blocks graph query) → select_is_sound catalog (select_of_block catalog graph 65 combined query block) [] ≡ true
       block_sound block there =
-          select_is catalog graph 65 (query_singletons query) (laid_block catalog graph 65 combined query block) query.condition query.columns served.valid valid (laid block there) combined builds
+          select_is catalog graph 65 (query_singletons query) (laid_block catalog graph 65 combined query block) query.condition query.columns served.valid valid
+          (laid block there) combined builds
           (made block there) ok.condition ok.columns ok.names
 
       block_classes : (block : Block) → IsIn block (blocks graph query)
           → classes_of (select_of_block catalog graph 65 combined query block).columns ≡ map (λ output. class_in class_is output.value) query.columns
       block_classes block there =
-          classes_are catalog graph 65 (query_singletons query) (laid_block catalog graph 65 combined query block) query.condition query.columns served.valid valid (laid block there) combined builds
+          classes_are catalog graph 65 (query_singletons query) (laid_block catalog graph 65 combined query block) query.condition query.columns served.valid valid
+          (laid block there) combined builds
           (made block there) ok.condition ok.columns
 
       abbrev none : Select
@@ -168,10 +173,12 @@ module _ (catalog : Catalog) (query : CheckedQuery) (served : IsServed catalog q
       all_agree (b ∷ bs) there = each bs (λ d k. there d (inr k))
         where
           each : (some : List Block) → ((block : Block) → IsIn block some → IsIn block (blocks graph query))
-              → list_all (λ select. same_classes (classes_of (select_of_block catalog graph 65 combined query b).columns) (classes_of select.columns)) (map (select_of_block catalog graph 65 combined query) some) ≡ true
+              → list_all (λ select. same_classes (classes_of (select_of_block catalog graph 65 combined query b).columns) (classes_of select.columns))
+              (map (select_of_block catalog graph 65 combined query) some) ≡ true
           each [] here = refl
           each (c ∷ cs) here =
-              and_join _ _ (ap₂ same_classes (block_classes b (there b (inl refl))) (block_classes c (here c (inl refl))) ∙ classes_same (map (λ output. class_in class_is output.value) query.columns))
+              and_join _ _ (ap₂ same_classes (block_classes b (there b (inl refl))) (block_classes c (here c (inl refl)))
+              ∙ classes_same (map (λ output. class_in class_is output.value) query.columns))
               (each cs (λ d k. here d (inr k)))
 
       pub query_sound : IsSound (lowered_query catalog combined query) catalog

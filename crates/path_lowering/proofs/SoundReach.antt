@@ -1,5 +1,6 @@
 -- The FROM items of a block reach each of its places, and a column of a place is sound.
-use Rattle.std.proofs.Common.{◌≡◌, ◌≢◌, ℕ, zero, suc, ◌+◌, ◌<◌, ◌≤◌, ◌^◌, Bool, true, false, ◌||◌, not, cond, List, [], ◌∷◌, ◌++◌, map, length, get_or, refl, sym, ap, ap₂, subst, ◌∙◌, inl, inr, nat_eq, Option, None, Some, is_some, bytes_eq, arith}
+use Rattle.std.proofs.Common.{◌≡◌, ◌≢◌, ℕ, zero, suc, ◌+◌, ◌<◌, ◌≤◌, ◌^◌, Bool, true, false, ◌||◌, not, cond, List, [], ◌∷◌, ◌++◌, map, length, get_or, refl, sym, ap, ap₂, subst}
+use Rattle.std.proofs.Common.{◌∙◌, inl, inr, nat_eq, Option, None, Some, is_some, bytes_eq, arith}
 use Rattle.std.specs.Prelude.{find, decimal}
 use Rattle.std.specs.List.{list_all}
 use Rattle.std.proofs.Math.ListN.{length-map}
@@ -45,7 +46,8 @@ use Rattle.path_lowering.proofs.Theorems.{first_item}
 use Rattle.path_lowering.proofs.TupleLemmas.{name_itself, names_differ, AreNumbered}
 
 -- what stands at a place is found by its name, where no name stands twice
-found_own : {X : Type 0} (name : X → List ℕ) (xs : List X) (i : ℕ) (d : X) → IsWithoutRepeats (map name xs) → i < length xs → find (λ x. bytes_eq (name x) (name (get_or xs i d))) xs ≡ Some (get_or xs i d)
+found_own : {X : Type 0} (name : X → List ℕ) (xs : List X) (i : ℕ) (d : X) → IsWithoutRepeats (map name xs) → i < length xs
+    → find (λ x. bytes_eq (name x) (name (get_or xs i d))) xs ≡ Some (get_or xs i d)
 found_own name [] i d apart h = absurd (omega arith)
 found_own name (x ∷ xs) zero d apart h = ap (λ b. cond b (Some x) (find (λ u. bytes_eq (name u) (name x)) xs)) (name_itself (name x))
 found_own name (x ∷ xs) (suc i) d apart h =
@@ -77,7 +79,8 @@ alias_apart : (prefix a b : ℕ) → a < 2 ^ 64 → b < 2 ^ 64 → a ≢ b → b
 alias_apart prefix a b p q h = names_differ (alias_of prefix a) (alias_of prefix b) (λ e. let k : decimal a ≡ decimal b = cc in h (decimal_injective a b p q k))
 
 -- the item of a number is found by its alias
-item_found : (prefix : ℕ) (items : List FromItem) (outer : Reach) (number k : ℕ) (d : FromItem) → AreNumbered prefix number items → k < length items → number + length items ≤ 2 ^ 64
+item_found : (prefix : ℕ) (items : List FromItem) (outer : Reach) (number k : ℕ) (d : FromItem) → AreNumbered prefix number items → k < length items
+    → number + length items ≤ 2 ^ 64
     → find (λ item. bytes_eq item.alias (alias_of prefix (number + k))) (items ++ outer) ≡ Some (get_or items k d)
 item_found prefix [] outer number k d numbered below few = absurd (omega arith)
 item_found prefix (item ∷ items) outer number zero d numbered below few =
@@ -92,13 +95,15 @@ item_found prefix (item ∷ items) outer number (suc k) d numbered below few =
     ∙ item_found prefix items outer (suc number) k d numbered.1 (omega arith) (omega arith)
 
 -- aliases by number differ
-none_later : (prefix m number : ℕ) (items : List FromItem) → m < number → AreNumbered prefix number items → number + length items ≤ 2 ^ 64 → is_in (alias_of prefix m) (map (λ item. item.alias) items) ≡ false
+none_later : (prefix m number : ℕ) (items : List FromItem) → m < number → AreNumbered prefix number items → number + length items ≤ 2 ^ 64
+    → is_in (alias_of prefix m) (map (λ item. item.alias) items) ≡ false
 none_later prefix m number [] low numbered few = refl
 none_later prefix m number (item ∷ items) low numbered few =
     ap₂ (λ a b. a || b) (ap (λ a. bytes_eq a (alias_of prefix m)) numbered.0 ∙ alias_apart prefix number m (omega arith) (omega arith) (omega arith))
     (none_later prefix m (suc number) items (omega arith) numbered.1 (omega arith))
 
-pub aliases_differ : (prefix number : ℕ) (items : List FromItem) → AreNumbered prefix number items → number + length items ≤ 2 ^ 64 → differ_from [] (map (λ item. item.alias) items) ≡ true
+pub aliases_differ : (prefix number : ℕ) (items : List FromItem) → AreNumbered prefix number items → number + length items ≤ 2 ^ 64
+    → differ_from [] (map (λ item. item.alias) items) ≡ true
 aliases_differ prefix number [] numbered few = refl
 aliases_differ prefix number (item ∷ items) numbered few =
     and_join _ _ (ap not (ap (λ a. is_in a (map (λ i. i.alias) items)) numbered.0 ∙ none_later prefix number (suc number) items (omega arith) numbered.1 (omega arith)))
@@ -133,7 +138,8 @@ module _ (catalog : Catalog) (graph : Graph) (prefix : ℕ) (reach : Reach) (sou
       ∙ same_self leaf.class
 
 module _ (catalog : Catalog) (graph : Graph) (prefix : ℕ) (names : List (List ℕ)) (parts : List Laid) (condition : Option Condition) (outputs : List Output)
-    (sound : IsValidCatalog catalog) (valid : IsValidGraph catalog graph) (ok : IsBlockLaid catalog graph prefix names parts condition outputs) (conditions : List SqlCondition) where
+    (sound : IsValidCatalog catalog) (valid : IsValidGraph catalog graph) (ok : IsBlockLaid catalog graph prefix names parts condition outputs)
+    (conditions : List SqlCondition) where
   abbrev spots : List Spot
   spots = laid_spots parts
 
@@ -157,7 +163,8 @@ module _ (catalog : Catalog) (graph : Graph) (prefix : ℕ) (names : List (List 
   tags_sized (laid ∷ more) all =
       let here = all laid (inl refl) in
       let own : length laid.part.tags ≡ length laid.spots =
-      here.tags_many ∙ ap length (sym (numbers_along Vertex laid.part.elements here.items here.many)) ∙ length-map (spots_along Vertex laid.part.elements here.items) (λ spot. spot.element) ∙ ap length (sym here.spots) in
+      here.tags_many ∙ ap length (sym (numbers_along Vertex laid.part.elements here.items here.many)) ∙ length-map (spots_along Vertex laid.part.elements here.items)
+      (λ spot. spot.element) ∙ ap length (sym here.spots) in
       length-append laid.part.tags (laid_tags more) ∙ ap₂ ◌+◌ own (tags_sized more (λ l h. all l (inr h))) ∙ sym (length-append laid.spots (laid_spots more))
 
   sized : length tags ≡ length spots
@@ -230,7 +237,8 @@ module _ (catalog : Catalog) (graph : Graph) (prefix : ℕ) (names : List (List 
         there = ok.elements spot h;
         low = (let n = own_few catalog graph prefix 0 spots in let few = ok.few in omega (arith, below, many_items, n, few));
         item = get_or items spot.item no_item;
-        found = ap (λ n. find (λ item. bytes_eq item.alias (alias_of prefix n)) (items ++ outer)) zeroth ∙ item_found prefix items outer 0 spot.item no_item numbered below few_items;
+        found = ap (λ n. find (λ item. bytes_eq item.alias (alias_of prefix n)) (items ++ outer)) zeroth
+            ∙ item_found prefix items outer 0 spot.item no_item numbered below few_items;
         table = sym (get_or-map (λ item. item.table) items spot.item no_item [] below) ∙ ap (λ l. get_or l spot.item []) names_are ∙ place.1;
       }
 
@@ -241,7 +249,8 @@ module _ (catalog : Catalog) (graph : Graph) (prefix : ℕ) (names : List (List 
   own_in next [] spot h = absurd h
   own_in next (s ∷ ss) spot h = go (nat_eq s.item next) h (own_in (suc next) ss spot) (own_in next ss spot)
     where
-      go : (b : Bool) → IsIn spot (cond b (s ∷ own_spots (suc next) ss) (own_spots next ss)) → (IsIn spot (own_spots (suc next) ss) → IsIn spot ss) → (IsIn spot (own_spots next ss) → IsIn spot ss) → IsIn spot (s ∷ ss)
+      go : (b : Bool) → IsIn spot (cond b (s ∷ own_spots (suc next) ss) (own_spots next ss)) → (IsIn spot (own_spots (suc next) ss) → IsIn spot ss)
+          → (IsIn spot (own_spots next ss) → IsIn spot ss) → IsIn spot (s ∷ ss)
       go true (inl e) more skip = inl e
       go true (inr k) more skip = inr (more k)
       go false k more skip = inr (skip k)
@@ -249,11 +258,13 @@ module _ (catalog : Catalog) (graph : Graph) (prefix : ℕ) (names : List (List 
   pub tables_known : list_all (λ item. is_some (table_named catalog item.table)) items ≡ true
   tables_known =
       sym (list_all-map (λ name. is_some (table_named catalog name)) (λ item. item.table) items)
-      ∙ ap (list_all (λ name. is_some (table_named catalog name))) (from_tables sources conditions ∙ map-again (λ source. source.table) (source_of catalog graph prefix) (own_spots 0 spots))
+      ∙ ap (list_all (λ name. is_some (table_named catalog name))) (from_tables sources conditions ∙ map-again (λ source. source.table) (source_of catalog graph prefix)
+      (own_spots 0 spots))
       ∙ of_each (λ name. is_some (table_named catalog name)) (map name_for (own_spots 0 spots))
       (λ name h. let m = in_mapped name_for name (own_spots 0 spots) h in
       ap (λ n. is_some (table_named catalog n)) (sym m.2)
-      ∙ ap is_some (table_found catalog sound (element_at graph m.0).table (element_valid catalog graph valid m.0.kind m.0.element (ok.elements m.0 (own_in 0 spots m.0 m.1))).table_there))
+      ∙ ap is_some (table_found catalog sound (element_at graph m.0).table
+      (element_valid catalog graph valid m.0.kind m.0.element (ok.elements m.0 (own_in 0 spots m.0 m.1))).table_there))
 
   -- there is an item
   pub some_source : 1 ≤ length sources

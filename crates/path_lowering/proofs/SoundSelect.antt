@@ -37,7 +37,8 @@ use Rattle.path_lowering.proofs.Facts.{element_valid}
 use Rattle.path_lowering.proofs.Lists.{append-nil, map-again, map-append, map-each}
 use Rattle.path_lowering.proofs.PlacingLemmas.{and_join, of_each}
 use Rattle.path_lowering.proofs.SharedLemmas.{in_mapped}
-use Rattle.path_lowering.proofs.SoundForms.{leaf_value_sound, leaf_class_is, null_value_sound, null_class_is, pair_sound, all_sound, any_sound, StandsFor, mapped_value_sound, mapped_class_is, mapped_sound}
+use Rattle.path_lowering.proofs.SoundForms.{leaf_value_sound, leaf_class_is, null_value_sound, null_class_is, pair_sound, all_sound, any_sound, StandsFor, mapped_value_sound}
+use Rattle.path_lowering.proofs.SoundForms.{mapped_class_is, mapped_sound}
 use Rattle.path_lowering.proofs.SoundPlacing.{ons_sound, where_sound}
 use Rattle.path_lowering.proofs.SoundReach.{IsReached, column_sound, element_in, names_apart, reached, aliases_apart, tables_known}
 use Rattle.path_lowering.proofs.SoundConditions.{Accepts, append_fine}
@@ -68,7 +69,8 @@ module _ (catalog : Catalog) (graph : Graph) (prefix : ℕ) (reach : Reach) (sou
 
   -- what a property becomes at a place
   property_stands : (spot : Spot) → IsIn spot spots → (leaf : PropertyLeaf) → HasItsClass catalog graph leaf
-      → (value_is_sound catalog reach (lowered_property catalog graph prefix spot leaf) ≡ true) × (class_in leaf_class (lowered_property catalog graph prefix spot leaf) ≡ leaf.class)
+      → (value_is_sound catalog reach (lowered_property catalog graph prefix spot leaf) ≡ true)
+      × (class_in leaf_class (lowered_property catalog graph prefix spot leaf) ≡ leaf.class)
   property_stands spot h leaf known = go (column_of (element_at graph spot) leaf.property) refl
     where
       go : (o : Option ℕ) → column_of (element_at graph spot) leaf.property ≡ o
@@ -78,7 +80,8 @@ module _ (catalog : Catalog) (graph : Graph) (prefix : ℕ) (reach : Reach) (sou
       go (Some column) e =
           let m = named_property leaf.property (element_at graph spot).properties column e in
           let ok = reached_all spot h in
-          let below = subst (λ n. n < length (table_at catalog (element_at graph spot).table).columns) m.3 ((element_valid catalog graph valid spot.kind spot.element ok.there).property_columns m.0 m.1) in (
+          let below = subst (λ n. n < length (table_at catalog (element_at graph spot).table).columns) m.3
+          ((element_valid catalog graph valid spot.kind spot.element ok.there).property_columns m.0 m.1) in (
             leaf_value_sound catalog reach (leaf_of catalog graph prefix spot column) (column_sound catalog graph prefix reach sound valid spot ok column below),
             leaf_class_is catalog reach (leaf_of catalog graph prefix spot column)
                 ∙ ap (λ n. class_of_type (column_at (table_at catalog (element_at graph spot).table) n).kind) (sym m.3)
@@ -116,7 +119,8 @@ pub plainly : (catalog : Catalog) (graph : Graph) (prefix : ℕ) (names : List (
 plainly catalog graph prefix names parts condition outputs =
     let columns = map (column_for catalog graph prefix (laid_tags parts) (laid_spots parts)) outputs in
     let sources = sources_of catalog graph prefix (laid_spots parts) in
-    ap (λ conditions. record { columns = columns; from = from_of sources conditions; conjuncts = where_of sources conditions }) (sym (append-nil (block_conditions catalog graph prefix names parts condition)))
+    ap (λ conditions. record { columns = columns; from = from_of sources conditions; conjuncts = where_of sources conditions })
+    (sym (append-nil (block_conditions catalog graph prefix names parts condition)))
     ∙ ap (λ conjuncts. record { columns = columns; from = from_of sources (block_conditions catalog graph prefix names parts condition ++ []); conjuncts = conjuncts })
     (sym (append-nil (where_of sources (block_conditions catalog graph prefix names parts condition ++ []))))
 
@@ -124,10 +128,12 @@ plainly catalog graph prefix names parts condition outputs =
 pub record IsSoundlyMade (catalog : Catalog) (graph : Graph) (prefix : ℕ) (combined : Combining) (laid : Laid) : Type 0 where
   pub some : 1 ≤ length laid.part.alternatives
   pub conditions : laid.conditions ≡ combined (alternatives_of catalog graph prefix laid.path laid.part laid.spots)
-  pub scoped : (choice : Alternative) → IsIn choice laid.part.alternatives → (scoped : Scoped) → IsIn scoped (expansion_of laid.path choice).conditions → IsSoundCondition catalog graph scoped.condition
+  pub scoped : (choice : Alternative) → IsIn choice laid.part.alternatives → (scoped : Scoped) → IsIn scoped (expansion_of laid.path choice).conditions
+      → IsSoundCondition catalog graph scoped.condition
 
 module _ (catalog : Catalog) (graph : Graph) (prefix : ℕ) (names : List (List ℕ)) (parts : List Laid) (condition : Option Condition) (outputs : List Output)
-    (sound : IsValidCatalog catalog) (valid : IsValidGraph catalog graph) (ok : IsBlockLaid catalog graph prefix names parts condition outputs) (combined : Combining) (builds : IsBuilding combined)
+    (sound : IsValidCatalog catalog) (valid : IsValidGraph catalog graph) (ok : IsBlockLaid catalog graph prefix names parts condition outputs) (combined : Combining)
+    (builds : IsBuilding combined)
     (made : (laid : Laid) → IsIn laid parts → IsSoundlyMade catalog graph prefix combined laid) (last : (c : Condition) → condition ≡ Some c → IsSoundCondition catalog graph c)
     (columns : (output : Output) → IsIn output outputs → IsSoundExpression catalog graph output.value) where
   abbrev sources : List Source
@@ -157,7 +163,8 @@ module _ (catalog : Catalog) (graph : Graph) (prefix : ℕ) (names : List (List 
     reached_all = reached catalog graph prefix names parts condition outputs sound valid ok conditions outer
 
     becomes : (e : Condition) → IsSoundCondition catalog graph e
-        → BecomesFine catalog graph prefix valid (condition_is_sound catalog reach) (laid_spots parts) (accepts catalog graph prefix reach sound valid (laid_spots parts) reached_all) e
+        → BecomesFine catalog graph prefix valid (condition_is_sound catalog reach) (laid_spots parts)
+        (accepts catalog graph prefix reach sound valid (laid_spots parts) reached_all) e
     becomes = becomes_sound catalog graph prefix reach sound valid (laid_spots parts) reached_all
 
     conditions_sound : list_all (condition_is_sound catalog reach) besides ≡ true → list_all (condition_is_sound catalog reach) conditions ≡ true
@@ -172,10 +179,12 @@ module _ (catalog : Catalog) (graph : Graph) (prefix : ℕ) (names : List (List 
     column_sound_at column h =
         let m = in_mapped column_of_output column outputs h in
         ap (λ c. value_is_sound catalog reach c.value) (sym m.2)
-        ∙ lowered_value_sound catalog graph prefix reach sound valid (laid_spots parts) reached_all (spot_by (laid_tags parts) (laid_spots parts)) within m.0.value (columns m.0 m.1)
+        ∙ lowered_value_sound catalog graph prefix reach sound valid (laid_spots parts) reached_all (spot_by (laid_tags parts) (laid_spots parts)) within m.0.value
+        (columns m.0 m.1)
 
     pub besides_is : differ_from (map (λ item. item.alias) outer) (map (λ item. item.alias) items) ≡ true → list_all (condition_is_sound catalog reach) besides ≡ true
-        → list_all (λ conjunct. conjunct reach) (map (conjunct_is_sound catalog) more) ≡ true → IsWithoutRepeats (map (λ output. output.name) outputs) → select_is_sound catalog select outer ≡ true
+        → list_all (λ conjunct. conjunct reach) (map (conjunct_is_sound catalog) more) ≡ true → IsWithoutRepeats (map (λ output. output.name) outputs)
+        → select_is_sound catalog select outer ≡ true
     besides_is aliases h more_sound apart =
         ap (λ f. f outer) (select_sound catalog select)
         ∙ and_join _ _ (and_join _ _ (and_join _ _ (and_join _ _ (and_join _ _
@@ -193,7 +202,8 @@ module _ (catalog : Catalog) (graph : Graph) (prefix : ℕ) (names : List (List 
   classes_are =
       map-again (λ column. class_in leaf_class column.value) column_of_output outputs
       ∙ map-each _ (λ output. class_in class_is output.value) outputs
-      (λ output h. lowered_class catalog graph prefix (reach [] [] []) sound valid (laid_spots parts) (reached_all [] [] []) (spot_by (laid_tags parts) (laid_spots parts)) within output.value (columns output h))
+      (λ output h. lowered_class catalog graph prefix (reach [] [] []) sound valid (laid_spots parts) (reached_all [] [] []) (spot_by (laid_tags parts) (laid_spots parts))
+      within output.value (columns output h))
 
   pub select_is : IsWithoutRepeats (map (λ output. output.name) outputs) → select_is_sound catalog (select_for catalog graph prefix names parts condition outputs) [] ≡ true
   select_is apart =

@@ -1,5 +1,6 @@
 -- NOT EXISTS of a candidate is sound within the reach of the SELECT around it.
-use Rattle.std.proofs.Common.{◌≡◌, ◌≢◌, ℕ, suc, ◌<◌, ◌≤◌, ◌^◌, true, false, ◌||◌, not, cond, List, [], ◌∷◌, ◌++◌, map, length, refl, sym, ap, ap₂, subst, ◌∙◌, inl, inr, None, Some, bytes_eq, arith}
+use Rattle.std.proofs.Common.{◌≡◌, ◌≢◌, ℕ, suc, ◌<◌, ◌≤◌, ◌^◌, true, false, ◌||◌, not, cond, List, [], ◌∷◌, ◌++◌, map, length, refl, sym, ap, ap₂, subst, ◌∙◌, inl, inr, None}
+use Rattle.std.proofs.Common.{Some, bytes_eq, arith}
 use Rattle.std.specs.Prelude.{find, pos}
 use Rattle.std.specs.List.{AllByRecursion, list_all}
 use Rattle.std.proofs.lemmas.Bool.{and_parts}
@@ -34,7 +35,7 @@ use Rattle.path_lowering.specs.Spots.{element_at}
 use Rattle.path_lowering.specs.Emitted.{SqlCondition, alias_of, leaf_of}
 use Rattle.path_lowering.specs.Placed.{from_of}
 use Rattle.path_lowering.specs.Blocks.{Laid, laid_spots, sources_of, block_conditions}
-use Rattle.path_lowering.specs.Selects.{IsBlockLaid}
+use Rattle.path_lowering.specs.Selects.{IsBlockLaid, select_for}
 use Rattle.path_lowering.specs.Lowered.{Combining, IsCombining, IsLowerable}
 use Rattle.path_lowering.specs.Shortest.{spot_at, last_place, one_column, key_across, ends_across, candidate_laid, candidate_select}
 use Rattle.path_lowering.specs.Sound.{class_is, HasItsClass, IsSoundExpression, IsSoundQuery, IsBuilding}
@@ -50,6 +51,7 @@ use Rattle.path_lowering.proofs.SoundReach.{IsReached, column_sound, reached, al
 use Rattle.path_lowering.proofs.SoundConditions.{append_fine}
 use Rattle.path_lowering.proofs.SoundBlock.{map_fine}
 use Rattle.path_lowering.proofs.SoundSelect.{IsSoundlyMade, besides_is}
+use Rattle.path_lowering.proofs.SoundSelect.{select_is as alone_is}
 use Rattle.path_lowering.proofs.SoundQuery.{some_alternative}
 
 -- aliases of two letters differ
@@ -70,7 +72,8 @@ none_of_letter letter other at m [] h numbered = refl
 none_of_letter letter other at m (item ∷ items) h numbered =
     ap₂ (λ a b. a || b) (ap (λ a. bytes_eq a (alias_of letter m)) numbered.0 ∙ letters_differ other letter at m h) (none_of_letter letter other (suc at) m items h numbered.1)
 
-lettered : (letter at : ℕ) (items : List FromItem) → AreNumbered letter at items → (name : List ℕ) → IsIn name (map (λ item. item.alias) items) → (m : ℕ) × (alias_of letter m ≡ name)
+lettered : (letter at : ℕ) (items : List FromItem) → AreNumbered letter at items → (name : List ℕ) → IsIn name (map (λ item. item.alias) items) → (m : ℕ)
+    × (alias_of letter m ≡ name)
 lettered letter at [] numbered name h = absurd h
 lettered letter at (item ∷ items) numbered name (inl e) = (at, sym numbered.0 ∙ e)
 lettered letter at (item ∷ items) numbered name (inr h) = lettered letter (suc at) items numbered.1 name h
@@ -93,7 +96,8 @@ module _ (catalog : Catalog) (graph : Graph) (reach : Reach) (sound : IsValidCat
       → list_all (condition_is_sound catalog reach) (key_across catalog graph own other) ≡ true
   key_sound own other p q same =
       let ok = element_valid catalog graph valid own.kind own.element p.there in
-      map_fine (condition_is_sound catalog reach) (λ column. Compare Equal (Leaf (leaf_of catalog graph 83 own column)) (Leaf (leaf_of catalog graph 65 other column))) (element_at graph own).key
+      map_fine (condition_is_sound catalog reach) (λ column. Compare Equal (Leaf (leaf_of catalog graph 83 own column)) (Leaf (leaf_of catalog graph 65 other column)))
+      (element_at graph own).key
       (λ column h. pair_sound catalog reach Equal (leaf_of catalog graph 83 own column) (leaf_of catalog graph 65 other column)
       (column_sound catalog graph 83 reach sound valid own p column (ok.key.places column h))
       (column_sound catalog graph 65 reach sound valid other q column (subst (λ (e : Element). column < length (table_at catalog e.table).columns) same (ok.key.places column h)))
@@ -105,40 +109,16 @@ last_below spots h = omega (arith, h)
 pub spot_there : (spots : List Spot) (place : ℕ) → place < length spots → IsIn (spot_at spots place) spots
 spot_there spots place h = in_at spots place (record { kind = Vertex; element = 0; item = 0 }) h
 
-module _ (catalog : Catalog) (graph : Graph) (sound : IsValidCatalog catalog) (valid : IsValidGraph catalog graph) (instance : InstanceRows) (fits : Fits catalog instance) (query : CheckedQuery)
+module _ (catalog : Catalog) (graph : Graph) (sound : IsValidCatalog catalog) (valid : IsValidGraph catalog graph) (instance : InstanceRows) (fits : Fits catalog instance)
+    (query : CheckedQuery)
     (ok : IsLowerable graph query) (combined : Combining) (combines : IsCombining combined) (builds : IsBuilding combined) (well : IsSoundQuery catalog graph query)
-    (path : CheckedPath) (among : IsIn path query.paths) (place : ℕ) (other : PathBlock) (there : IsIn other (path_blocks graph place path)) (few : length other.elements < 2 ^ 32)
-    (outside : List Spot) (some : 1 ≤ length outside) (outer : Reach) (numbered : AreNumbered 65 0 outer)
-    (reached_out : (spot : Spot) → IsIn spot outside → IsReached catalog graph 65 outer spot) where
+    (path : CheckedPath) (among : IsIn path query.paths) (place : ℕ) (other : PathBlock) (there : IsIn other (path_blocks graph place path))
+    (few : length other.elements < 2 ^ 32) where
   abbrev own : Laid
   own = candidate_laid catalog graph combined path other
 
   laid : IsBlockLaid catalog graph 83 (singletons_of path) (own ∷ []) None (one_column ∷ [])
   laid = candidate_is_laid catalog graph valid instance fits query ok combined combines path among place other there few
-
-  abbrev conditions : List SqlCondition
-  conditions = block_conditions catalog graph 83 (singletons_of path) (own ∷ []) None ++ []
-
-  abbrev items : List FromItem
-  items = from_of (sources_of catalog graph 83 (laid_spots (own ∷ []))) conditions
-
-  abbrev reach : Reach
-  reach = items ++ outer
-
-  own_numbered : AreNumbered 83 0 items
-  own_numbered = items_numbered catalog graph 83 (laid_spots (own ∷ [])) conditions
-
-  own_some : 1 ≤ length own.spots
-  own_some = subst (λ (s : List Spot). 1 ≤ length s) (append-nil own.spots) laid.some
-
-  reached_own : (spot : Spot) → IsIn spot own.spots → IsReached catalog graph 83 reach spot
-  reached_own spot h =
-      reached catalog graph 83 (singletons_of path) (own ∷ []) None (one_column ∷ []) sound valid laid conditions outer spot (subst (IsIn spot) (sym (append-nil own.spots)) h)
-
-  reached_other : (spot : Spot) → IsIn spot outside → IsReached catalog graph 65 reach spot
-  reached_other spot h =
-      let out = reached_out spot h in
-      record { there = out.there; low = out.low; item = out.item; found = found_behind 83 65 0 spot.item items outer (λ e. absurd (omega (arith, e))) own_numbered ∙ out.found; table = out.table }
 
   made : (one : Laid) → IsIn one (own ∷ []) → IsSoundlyMade catalog graph 83 combined one
   made one (inr h) = absurd h
@@ -160,28 +140,67 @@ module _ (catalog : Catalog) (graph : Graph) (sound : IsValidCatalog catalog) (v
         well_classed = ap (λ j. j.kept) (on-Lit (judged_step class_is) (Number (pos 1)));
       })
 
-  module _ (first : element_at graph (spot_at own.spots 0) ≡ element_at graph (spot_at outside 0))
-      (last : element_at graph (spot_at own.spots (last_place own.spots)) ≡ element_at graph (spot_at outside (last_place outside))) where
-    ends_sound : list_all (condition_is_sound catalog reach) (ends_across catalog graph own.spots outside) ≡ true
-    ends_sound =
-        append_fine (condition_is_sound catalog reach) (key_across catalog graph (spot_at own.spots 0) (spot_at outside 0))
-        (key_across catalog graph (spot_at own.spots (last_place own.spots)) (spot_at outside (last_place outside)))
-        (key_sound catalog graph reach sound valid (spot_at own.spots 0) (spot_at outside 0) (reached_own (spot_at own.spots 0) (spot_there own.spots 0 own_some))
-        (reached_other (spot_at outside 0) (spot_there outside 0 some)) first)
-        (key_sound catalog graph reach sound valid (spot_at own.spots (last_place own.spots)) (spot_at outside (last_place outside))
-        (reached_own (spot_at own.spots (last_place own.spots)) (spot_there own.spots (last_place own.spots) (last_below own.spots own_some)))
-        (reached_other (spot_at outside (last_place outside)) (spot_there outside (last_place outside) (last_below outside some))) last)
+  -- by itself it is sound
+  pub alone_sound : select_is_sound catalog (select_for catalog graph 83 (singletons_of path) (own ∷ []) None (one_column ∷ [])) [] ≡ true
+  alone_sound =
+      alone_is catalog graph 83 (singletons_of path) (own ∷ []) None (one_column ∷ []) sound valid laid combined builds made no_condition one_sound ((λ h. h), tt)
 
-    pub candidate_sound : select_is_sound catalog (candidate_select catalog graph own outside) outer ≡ true
-    candidate_sound =
-        besides_is catalog graph 83 (singletons_of path) (own ∷ []) None (one_column ∷ []) sound valid laid combined builds made no_condition one_sound
-        [] (map Plain (ends_across catalog graph own.spots outside)) outer
-        (differ_both (map (λ item. item.alias) outer) (map (λ item. item.alias) items)
-        (aliases_apart catalog graph 83 (singletons_of path) (own ∷ []) None (one_column ∷ []) sound valid laid conditions)
-        (λ name h. let m = lettered 83 0 items own_numbered name h in
-        ap (λ n. is_in n (map (λ item. item.alias) outer)) (sym m.1) ∙ none_of_letter 83 65 0 m.0 outer (λ e. absurd (omega (arith, e))) numbered))
-        refl (plain_all catalog reach (ends_across catalog graph own.spots outside) ends_sound) ((λ h. h), tt)
+  -- within the reach of the SELECT around it
+  module _ (outside : List Spot) (some : 1 ≤ length outside) (outer : Reach) (numbered : AreNumbered 65 0 outer)
+      (reached_out : (spot : Spot) → IsIn spot outside → IsReached catalog graph 65 outer spot) where
+    abbrev conditions : List SqlCondition
+    conditions = block_conditions catalog graph 83 (singletons_of path) (own ∷ []) None ++ []
 
-    -- so NOT EXISTS of it is a sound conjunct of the SELECT around it
-    pub none_sound : conjunct_is_sound catalog (NotExists (candidate_select catalog graph own outside)) outer ≡ true
-    none_sound = ap (λ f. f outer) (not_exists_sound catalog (candidate_select catalog graph own outside)) ∙ candidate_sound
+    abbrev items : List FromItem
+    items = from_of (sources_of catalog graph 83 (laid_spots (own ∷ []))) conditions
+
+    abbrev reach : Reach
+    reach = items ++ outer
+
+    own_numbered : AreNumbered 83 0 items
+    own_numbered = items_numbered catalog graph 83 (laid_spots (own ∷ [])) conditions
+
+    own_some : 1 ≤ length own.spots
+    own_some = subst (λ (s : List Spot). 1 ≤ length s) (append-nil own.spots) laid.some
+
+    reached_own : (spot : Spot) → IsIn spot own.spots → IsReached catalog graph 83 reach spot
+    reached_own spot h =
+        reached catalog graph 83 (singletons_of path) (own ∷ []) None (one_column ∷ []) sound valid laid conditions outer spot (subst (IsIn spot) (sym (append-nil own.spots)) h)
+
+    reached_other : (spot : Spot) → IsIn spot outside → IsReached catalog graph 65 reach spot
+    reached_other spot h =
+        let out = reached_out spot h in
+        record {
+          there = out.there;
+          low = out.low;
+          item = out.item;
+          found = found_behind 83 65 0 spot.item items outer (λ e. absurd (omega (arith, e))) own_numbered
+              ∙ out.found;
+          table = out.table;
+        }
+
+    module _ (first : element_at graph (spot_at own.spots 0) ≡ element_at graph (spot_at outside 0))
+        (last : element_at graph (spot_at own.spots (last_place own.spots)) ≡ element_at graph (spot_at outside (last_place outside))) where
+      ends_sound : list_all (condition_is_sound catalog reach) (ends_across catalog graph own.spots outside) ≡ true
+      ends_sound =
+          append_fine (condition_is_sound catalog reach) (key_across catalog graph (spot_at own.spots 0) (spot_at outside 0))
+          (key_across catalog graph (spot_at own.spots (last_place own.spots)) (spot_at outside (last_place outside)))
+          (key_sound catalog graph reach sound valid (spot_at own.spots 0) (spot_at outside 0) (reached_own (spot_at own.spots 0) (spot_there own.spots 0 own_some))
+          (reached_other (spot_at outside 0) (spot_there outside 0 some)) first)
+          (key_sound catalog graph reach sound valid (spot_at own.spots (last_place own.spots)) (spot_at outside (last_place outside))
+          (reached_own (spot_at own.spots (last_place own.spots)) (spot_there own.spots (last_place own.spots) (last_below own.spots own_some)))
+          (reached_other (spot_at outside (last_place outside)) (spot_there outside (last_place outside) (last_below outside some))) last)
+
+      pub candidate_sound : select_is_sound catalog (candidate_select catalog graph own outside) outer ≡ true
+      candidate_sound =
+          besides_is catalog graph 83 (singletons_of path) (own ∷ []) None (one_column ∷ []) sound valid laid combined builds made no_condition one_sound
+          [] (map Plain (ends_across catalog graph own.spots outside)) outer
+          (differ_both (map (λ item. item.alias) outer) (map (λ item. item.alias) items)
+          (aliases_apart catalog graph 83 (singletons_of path) (own ∷ []) None (one_column ∷ []) sound valid laid conditions)
+          (λ name h. let m = lettered 83 0 items own_numbered name h in
+          ap (λ n. is_in n (map (λ item. item.alias) outer)) (sym m.1) ∙ none_of_letter 83 65 0 m.0 outer (λ e. absurd (omega (arith, e))) numbered))
+          refl (plain_all catalog reach (ends_across catalog graph own.spots outside) ends_sound) ((λ h. h), tt)
+
+      -- so NOT EXISTS of it is a sound conjunct of the SELECT around it
+      pub none_sound : conjunct_is_sound catalog (NotExists (candidate_select catalog graph own outside)) outer ≡ true
+      none_sound = ap (λ f. f outer) (not_exists_sound catalog (candidate_select catalog graph own outside)) ∙ candidate_sound

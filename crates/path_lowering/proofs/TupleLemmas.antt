@@ -1,5 +1,6 @@
 -- The tuples of a FROM are lists of rows, and what they show at the places of a block.
-use Rattle.std.proofs.Common.{◌≡◌, ◌≢◌, ℕ, zero, suc, ◌+◌, ◌<◌, ◌≤◌, ◌^◌, Bool, true, false, cond, List, [], ◌∷◌, ◌++◌, map, length, get_or, refl, sym, ap, ap₂, subst, ◌∙◌, inl, inr, Some, arith, bytes_eq, decimal}
+use Rattle.std.proofs.Common.{◌≡◌, ◌≢◌, ℕ, zero, suc, ◌+◌, ◌<◌, ◌≤◌, ◌^◌, Bool, true, false, cond, List, [], ◌∷◌, ◌++◌, map, length, get_or, refl, sym, ap, ap₂, subst, ◌∙◌, inl}
+use Rattle.std.proofs.Common.{inr, Some, arith, bytes_eq, decimal}
 use Rattle.std.specs.Prelude.{find}
 use Rattle.std.proofs.lemmas.Fmt.{decimal_injective}
 use Rattle.std.proofs.lemmas.Slice.Eq.{bytes_eq-Decides}
@@ -29,10 +30,17 @@ bound_to [] rows = []
 bound_to (item ∷ items) [] = []
 bound_to (item ∷ items) (row ∷ rows) = record { item = item; row = row } ∷ bound_to items rows
 
+pub bound_rows : (items : List FromItem) (rows : List RowValues) → length rows ≡ length items → map (λ bound. bound.row) (bound_to items rows) ≡ rows
+bound_rows [] [] many = refl
+bound_rows [] (row ∷ rows) many = absurd (omega arith)
+bound_rows (item ∷ items) [] many = absurd (omega arith)
+bound_rows (item ∷ items) (row ∷ rows) many = ap (λ l. row ∷ l) (bound_rows items rows (omega arith))
+
 abbrev pub tables_of : Catalog → InstanceRows → List FromItem → List TableRows
 tables_of catalog instance items = map (λ item. rows_of catalog instance item.table) items
 
-pub tuples_are : (catalog : Catalog) (instance : InstanceRows) (items : List FromItem) → tuples catalog instance items ≡ map (bound_to items) (combinations (tables_of catalog instance items))
+pub tuples_are : (catalog : Catalog) (instance : InstanceRows) (items : List FromItem) → tuples catalog instance items
+    ≡ map (bound_to items) (combinations (tables_of catalog instance items))
 tuples_are catalog instance [] = refl
 tuples_are catalog instance (item ∷ items) =
     flat_map-each _ _ (rows_of catalog instance item.table)
@@ -60,7 +68,8 @@ combination_many (l ∷ ls) xs h =
     let n = in_mapped (λ rest. m.0 ∷ rest) xs (combinations ls) m.2 in
     ap length (sym n.2) ∙ ap (λ k. suc k) (combination_many ls n.0 n.1)
 
-pub combination_at : {X : Type 0} (lists : List (List X)) (xs : List X) → IsIn xs (combinations lists) → (k : ℕ) (d : X) → k < length lists → IsIn (get_or xs k d) (get_or lists k [])
+pub combination_at : {X : Type 0} (lists : List (List X)) (xs : List X) → IsIn xs (combinations lists) → (k : ℕ) (d : X) → k < length lists
+    → IsIn (get_or xs k d) (get_or lists k [])
 combination_at [] xs h k d below = absurd (omega arith)
 combination_at {X} (l ∷ ls) xs h k d below = go k (λ rest m j small. combination_at ls rest m j d small) below
   where
@@ -91,7 +100,8 @@ pub place_of-own : (names : List (List ℕ)) (i : ℕ) → IsWithoutRepeats name
 place_of-own [] i apart h = absurd (omega arith)
 place_of-own (n ∷ names) zero apart h = ap (λ b. cond b 0 (suc (place_of n names))) (name_itself n)
 place_of-own (n ∷ names) (suc i) apart h =
-    ap (λ b. cond b 0 (suc (place_of (get_or names i []) names))) (names_differ n (get_or names i []) (λ e. apart.0 (subst (λ k. IsIn k names) (sym e) (in_at names i [] (omega arith)))))
+    ap (λ b. cond b 0 (suc (place_of (get_or names i []) names)))
+    (names_differ n (get_or names i []) (λ e. apart.0 (subst (λ k. IsIn k names) (sym e) (in_at names i [] (omega arith)))))
     ∙ ap (λ k. suc k) (place_of-own names i apart.1 (omega arith))
 
 find-own : (tables : List Table) (i : ℕ) (d : Table) → IsWithoutRepeats (map (λ t. t.name) tables) → i < length tables
@@ -100,7 +110,9 @@ find-own [] i d apart h = absurd (omega arith)
 find-own (t ∷ tables) zero d apart h = ap (λ b. cond b (Some t) (find (λ u. bytes_eq u.name t.name) tables)) (name_itself t.name)
 find-own (t ∷ tables) (suc i) d apart h =
     ap (λ b. cond b (Some t) (find (λ u. bytes_eq u.name (get_or tables i d).name) tables))
-    (names_differ t.name (get_or tables i d).name (λ e. apart.0 (subst (λ k. IsIn k (map (λ u. u.name) tables)) (sym e) (Rattle.path_lowering.proofs.Facts.in_map (λ u. u.name) (get_or tables i d) tables (in_at tables i d (omega arith))))))
+    (names_differ t.name (get_or tables i d).name
+    (λ e. apart.0 (subst (λ k. IsIn k (map (λ u. u.name) tables)) (sym e) (Rattle.path_lowering.proofs.Facts.in_map (λ u. u.name) (get_or tables i d) tables
+    (in_at tables i d (omega arith))))))
     ∙ find-own tables i d apart.1 (omega arith)
 
 module _ (catalog : Catalog) (valid : IsValidCatalog catalog) (instance : InstanceRows) where
@@ -122,8 +134,10 @@ module _ (catalog : Catalog) (valid : IsValidCatalog catalog) (instance : Instan
       → column_place catalog (table_at catalog place).name (column_at (table_at catalog place) column).name ≡ column
   column_found place column h k =
       ap (λ t. place_of (column_at (table_at catalog place) column).name (Rattle.sql_algebra.specs.Catalogs.column_names t)) (table_found place h)
-      ∙ ap (λ name. place_of name (map (λ c. c.name) (table_at catalog place).columns)) (sym (get_or-map (λ c. c.name) (table_at catalog place).columns column (record { name = []; kind = Boolean; not_null = false }) [] k))
-      ∙ place_of-own (map (λ c. c.name) (table_at catalog place).columns) column (valid.tables (table_at catalog place) (in_at catalog.tables place no_table h)).column_names (rw length-map k)
+      ∙ ap (λ name. place_of name (map (λ c. c.name) (table_at catalog place).columns))
+      (sym (get_or-map (λ c. c.name) (table_at catalog place).columns column (record { name = []; kind = Boolean; not_null = false }) [] k))
+      ∙ place_of-own (map (λ c. c.name) (table_at catalog place).columns) column (valid.tables (table_at catalog place) (in_at catalog.tables place no_table h)).column_names
+      (rw length-map k)
 
 -- items with the aliases of their numbers
 abbrev pub AreNumbered : ℕ → ℕ → List FromItem → Type 0
@@ -141,7 +155,8 @@ leaf_found catalog prefix outer [] rows number k d leaf numbered many below few 
 leaf_found catalog prefix outer (item ∷ items) [] number k d leaf numbered many below few is = absurd (omega arith)
 leaf_found catalog prefix outer (item ∷ items) (row ∷ rows) number zero d leaf numbered many below few is =
     let e : item.alias ≡ leaf.alias = numbered.0 ∙ ap (alias_of prefix) (omega arith) ∙ sym is in
-    ap (λ b. cond b (value_at row (column_place catalog item.table leaf.column)) (leaf_value catalog (bound_to items rows ++ outer) leaf)) ((bytes_eq-Decides item.alias leaf.alias).1 e)
+    ap (λ b. cond b (value_at row (column_place catalog item.table leaf.column)) (leaf_value catalog (bound_to items rows ++ outer) leaf))
+    ((bytes_eq-Decides item.alias leaf.alias).1 e)
 leaf_found catalog prefix outer (item ∷ items) (row ∷ rows) number (suc k) d leaf numbered many below few is =
     ap (λ b. cond b (value_at row (column_place catalog item.table leaf.column)) (leaf_value catalog (bound_to items rows ++ outer) leaf))
     (ap₂ bytes_eq numbered.0 is ∙ alias_differs prefix number (number + suc k) (omega arith) (omega arith) (omega arith))
@@ -149,7 +164,8 @@ leaf_found catalog prefix outer (item ∷ items) (row ∷ rows) number (suc k) d
 
 -- aliases with one letter leave those with another one to the tuple around
 pub passed_over : (catalog : Catalog) (prefix : ℕ) (outer : Tuple) (items : List FromItem) (rows : List RowValues) (at : ℕ) → AreNumbered prefix at items
-    → (leaf : ColumnLeaf) (letter number : ℕ) → leaf.alias ≡ alias_of letter number → letter ≢ prefix → leaf_value catalog (bound_to items rows ++ outer) leaf ≡ leaf_value catalog outer leaf
+    → (leaf : ColumnLeaf) (letter number : ℕ) → leaf.alias ≡ alias_of letter number → letter ≢ prefix → leaf_value catalog (bound_to items rows ++ outer) leaf
+    ≡ leaf_value catalog outer leaf
 passed_over catalog prefix outer [] rows at numbered leaf letter number is differ = refl
 passed_over catalog prefix outer (item ∷ items) [] at numbered leaf letter number is differ = refl
 passed_over catalog prefix outer (item ∷ items) (row ∷ rows) at numbered leaf letter number is differ =

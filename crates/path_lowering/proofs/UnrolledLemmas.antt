@@ -60,8 +60,10 @@ pub iterated_often : (n j : ℕ) (part : Iteration) (rest : List Iteration)
 iterated_often zero j part rest = let h : j ≡ j + 0 * edges_in part.pieces = omega arith in ap (λ k. iterated k rest) h
 iterated_often (suc n) j part rest =
     let h : j + edges_in part.pieces + n * edges_in part.pieces ≡ j + suc n * edges_in part.pieces = omega (arith, suc-mul n (edges_in part.pieces)) in
-    ap (λ l. scoped_by (placed j part.pieces) part.conditions ++ l) (iterated_often n (j + edges_in part.pieces) part rest ∙ ap (λ k. iterated (j + edges_in part.pieces) (replicate n part) ++ iterated k rest) h)
-    ∙ sym (append_assoc (scoped_by (placed j part.pieces) part.conditions) (iterated (j + edges_in part.pieces) (replicate n part)) (iterated (j + suc n * edges_in part.pieces) rest))
+    ap (λ l. scoped_by (placed j part.pieces) part.conditions ++ l) (iterated_often n (j + edges_in part.pieces) part rest
+    ∙ ap (λ k. iterated (j + edges_in part.pieces) (replicate n part) ++ iterated k rest) h)
+    ∙ sym (append_assoc (scoped_by (placed j part.pieces) part.conditions) (iterated (j + edges_in part.pieces) (replicate n part))
+    (iterated (j + suc n * edges_in part.pieces) rest))
 
 module _ {B : Type 0} (f : Scoped → B) where
   -- one iteration more

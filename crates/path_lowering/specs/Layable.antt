@@ -36,7 +36,8 @@ pub record IsLayable (graph : Graph) (path : CheckedPath) (part : PathBlock) : T
   pub choices : (choice : Alternative) → IsIn choice part.alternatives → IsIn choice (choices path)
   pub tags : length part.tags ≡ length part.elements
   pub few : length part.elements < 2 ^ 32
-  pub elements : (items : List ℕ) → length part.elements ≤ length items → (spot : Spot) → IsIn spot (spots_along Vertex part.elements items) → spot.element < count_of_kind graph spot.kind
+  pub elements : (items : List ℕ) → length part.elements ≤ length items → (spot : Spot) → IsIn spot (spots_along Vertex part.elements items)
+      → spot.element < count_of_kind graph spot.kind
 
 -- a graph block has not too many places, and its plan has an item for each
 pub record IsPlannable (query : CheckedQuery) (block : Block) : Type 0 where

@@ -45,7 +45,8 @@ pub record IsSoundCondition (catalog : Catalog) (graph : Graph) (condition : Con
 
 -- so are the conditions of each choice, the last one and the columns, whose names differ
 pub record IsSoundQuery (catalog : Catalog) (graph : Graph) (query : CheckedQuery) : Type 0 where
-  pub conditions : (path : CheckedPath) → IsIn path query.paths → (choice : Alternative) → IsIn choice (choices path) → (scoped : Scoped) → IsIn scoped (expansion_of path choice).conditions
+  pub conditions : (path : CheckedPath) → IsIn path query.paths → (choice : Alternative) → IsIn choice (choices path) → (scoped : Scoped)
+      → IsIn scoped (expansion_of path choice).conditions
       → IsSoundCondition catalog graph scoped.condition
   pub condition : (c : Condition) → query.condition ≡ Some c → IsSoundCondition catalog graph c
   pub columns : (output : Output) → IsIn output query.columns → IsSoundExpression catalog graph output.value

@@ -38,7 +38,8 @@ pub record HasNames (catalog : Catalog) : Type 0 where
 
 -- the conditions of each choice, the last one and the columns are spelled, of which there are some, with names
 pub record IsSpelledQuery (query : CheckedQuery) : Type 0 where
-  pub conditions : (path : CheckedPath) → IsIn path query.paths → (choice : Alternative) → IsIn choice (choices path) → (scoped : Scoped) → IsIn scoped (expansion_of path choice).conditions
+  pub conditions : (path : CheckedPath) → IsIn path query.paths → (choice : Alternative) → IsIn choice (choices path) → (scoped : Scoped)
+      → IsIn scoped (expansion_of path choice).conditions
       → IsSpelled scoped.condition
   pub condition : (c : Condition) → query.condition ≡ Some c → IsSpelled c
   pub some : 1 ≤ length query.columns

@@ -3,7 +3,7 @@ ghost use Rattle.graph_meaning.specs.Weights.{is_candidate as is_candidate_of};
 ghost use Rattle.path_lowering.specs.Spots.{element_at};
 ghost use Rattle.path_lowering.specs.Shortest.{spot_at, last_place, key_across as keys_across, ends_across as both_ends_across};
 ghost use Rattle.path_lowering.specs.Shown.{AreColumnsIn, HasKey};
-ghost use Rattle.path_lowering.specs.Emitted.{leaf_in};
+ghost use Rattle.path_lowering.specs.Emitted.{leaf_in, leaf_of};
 ghost use Rattle.expr_tree.specs.declared.tree.Comparison.TheVariants.{Equal};
 ghost use Rattle.expr_tree.specs.declared.tree.Expr.TheVariants.{Leaf, Compare};
 ghost use Rattle.path_lowering.specs.Layable.{AreEnds};
@@ -14,7 +14,7 @@ use crate::scene::Scene;
 use crate::spots::Spot;
 use expr_tree::{Comparison, Expr};
 use graph_ast::{Catalog, PathBlock};
-use pgq_base::NoMemory;
+use pgq_base::{List, NoMemory};
 use sql_algebra::ColumnLeaf;
 use std::alloc::Global;
 
@@ -93,4 +93,36 @@ pub fn ends_across(
     let mut more = key_across(alloc, scene, last, &outside[outside.len() - 1])?;
     made.append(&mut more)?;
     Ok(made)
+}
+
+/// Columns of an element's table under an item, as leaves.
+fn leaves(
+    alloc: Global,
+    catalog: &Catalog,
+    prefix: u8,
+    side: &Side<'_>,
+) -> Result<List<ColumnLeaf>, NoMemory>
+    requires letter { prefix < 128 }
+    requires side { AreColumnsIn catalog.now side.now.element.now side.now.columns.now }
+    ensures { IfOk result (λ made. made ≡ map (leaf_in catalog.now prefix side.now.element.now side.now.item) side.now.columns.now) }
+{
+    let mut made = List::new(alloc);
+    for column in side.columns {
+        made.push(leaf(alloc, catalog, prefix, side.element, side.item, *column)?)?;
+    }
+    Ok(made)
+}
+
+/// The leaves of the key at a place.
+pub fn key_leaves(
+    alloc: Global,
+    scene: &Scene<'_>,
+    spot: &Spot,
+) -> Result<List<ColumnLeaf>, NoMemory>
+    requires letter { scene.now.prefix < 128 }
+    requires key { HasKey scene.now.catalog.now scene.now.graph.now spot.now }
+    ensures { IfOk result (λ made. made ≡ map (leaf_of scene.now.catalog.now scene.now.graph.now scene.now.prefix spot.now) (element_at scene.now.graph.now spot.now).key) }
+{
+    let side = key_side(scene, spot);
+    leaves(alloc, scene.catalog, scene.prefix, &side)
 }

@@ -1,5 +1,6 @@
 -- The class of a property, looked for in one element after another.
-use Rattle.std.proofs.Common.{◌≡◌, ℕ, zero, suc, ◌+◌, ◌<◌, ap, sym, ◌∙◌, refl, List, [], ◌∷◌, ◌++◌, length, get_or, drop, map, Option, None, Some, option_map, unwrap_or, slice_get, slice_index_or}
+use Rattle.std.proofs.Common.{◌≡◌, ℕ, zero, suc, ◌+◌, ◌<◌, ap, sym, ◌∙◌, refl, List, [], ◌∷◌, ◌++◌, length, get_or, drop, map, Option, None, Some, option_map, unwrap_or}
+use Rattle.std.proofs.Common.{slice_get, slice_index_or}
 use Rattle.std.proofs.lemmas.List.{drop_more}
 use Rattle.pgq_base.specs.declared.value.Class.{Class}
 use Rattle.graph_ast.specs.declared.catalog.Catalog.{Catalog}

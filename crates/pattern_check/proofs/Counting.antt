@@ -9,7 +9,8 @@ use Rattle.graph_ast.specs.declared.query.Factor.{Factor}
 use Rattle.graph_ast.specs.declared.query.Sequence.{Sequence}
 use Rattle.graph_meaning.specs.Choices.{greatest}
 use Rattle.pattern_check.specs.declared.measures.Measure.{Measure}
-use Rattle.pattern_check.specs.SizeRules.{greatest_number, counted, counted_measure, chained, either, product, counts_allowed, greatest_count, repeated_measure, sequence_measure, union_measure, measuring}
+use Rattle.pattern_check.specs.SizeRules.{greatest_number, counted, counted_measure, chained, either, product, counts_allowed, greatest_count, repeated_measure, sequence_measure}
+use Rattle.pattern_check.specs.SizeRules.{union_measure, measuring}
 use Rattle.graph_ast.specs.Patterns.{given_by, sequence_given}
 use Rattle.pattern_check.proofs.Capped.{capped_product}
 

@@ -31,7 +31,8 @@ refused_by end None query r lies e = absurd cc
 refused_by end (Some f) query r lies e = let same : refusal_of f ≡ r = cc in subst (λ (r : Refusal). LiesIn end r.span) same lies
 
 -- what checking answers
-pub stop_lies : (end : ℕ) (catalog : Catalog) (tree : QueryTree) (result : Result CheckedQuery (Stop Refusal)) → Gives (due catalog tree) result → EachSpanHas (LiesIn end) tree → StopLiesIn end result
+pub stop_lies : (end : ℕ) (catalog : Catalog) (tree : QueryTree) (result : Result CheckedQuery (Stop Refusal)) → Gives (due catalog tree) result → EachSpanHas (LiesIn end) tree
+    → StopLiesIn end result
 unfolding due
 stop_lies end catalog tree (Ok query) e h = tt
 stop_lies end catalog tree (Err (Refused r)) e h = refused_by end (first_fault catalog tree) (checked catalog tree) r (fault_lies end catalog tree h) e

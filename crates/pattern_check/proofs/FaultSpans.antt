@@ -1,5 +1,6 @@
 -- What holds of each span of a query's tree, and of 0-0, holds of the span of each fault.
-use Rattle.std.proofs.Common.{◌≡◌, refl, sym, ap, subst, ◌∙◌, ℕ, zero, suc, ◌+◌, Bool, true, false, not, ◌&&◌, ◌||◌, cond, List, [], ◌∷◌, ◌++◌, map, drop, option_to_list, slice_get, nat_lt, Option, None, Some, is_some, unwrap_or, bytes_eq}
+use Rattle.std.proofs.Common.{◌≡◌, refl, sym, ap, subst, ◌∙◌, ℕ, zero, suc, ◌+◌, Bool, true, false, not, ◌&&◌, ◌||◌, cond, List, [], ◌∷◌, ◌++◌, map, drop, option_to_list}
+use Rattle.std.proofs.Common.{slice_get, nat_lt, Option, None, Some, is_some, unwrap_or, bytes_eq}
 use Rattle.std.specs.List.{flat_map, list_any, find, enumerate_from, AllByRecursion}
 use Rattle.pgq_base.specs.declared.refusal.Span.{Span}
 use Rattle.pgq_base.specs.declared.value.Class.{Class}
@@ -28,11 +29,15 @@ use Rattle.graph_ast.specs.declared.query.Union.{Union}
 use Rattle.graph_ast.specs.declared.query.LabelExpr.{LabelExpr, LabelExpr-F, map-LabelExpr, fold-roll-LabelExpr, ind-LabelExpr}
 use Rattle.graph_ast.specs.Lookups.{graph_at, graph_place}
 use Rattle.graph_ast.specs.Patterns.{Giving, Body, Part, body_given, from_all, variable_in, is_repeated}
-use Rattle.graph_ast.specs.QuerySpans.{if_given, of_name, of_test, of_leaf, of_condition, label_step, of_label, of_filler, of_mode, of_quantifier, of_union, of_selector, of_path, of_gather, of_item, of_tree, EachSpanHas}
+use Rattle.graph_ast.specs.QuerySpans.{if_given, of_name, of_test, of_leaf, of_condition, label_step, of_label, of_filler, of_mode, of_quantifier, of_union, of_selector, of_path}
+use Rattle.graph_ast.specs.QuerySpans.{of_gather, of_item, of_tree, EachSpanHas}
 use Rattle.first_faults.specs.declared.faults.Fault.{Fault}
 use Rattle.first_faults.specs.Faults.{fault, when, is_before, earlier, first_of}
 use Rattle.first_faults.specs.Names.{is_among, repeated_behind}
-use Rattle.pattern_check.specs.Scopes.{Kind, vertices, edges, Place, Declaration, Around, Use, Uses, declared_by, place_inside, body_declares, declaring, operand_declares, operands_declare, path_declares, declarations, uses_in, uses_in_any, around_inside, names_in, body_variables, body_uses, part_uses, using, path_uses, nothing_around, uses, body_conditions, row_conditions, part_conditions, conditions, path_conditions, wheres, declares, first_declaration}
+use Rattle.pattern_check.specs.Scopes.{Kind, vertices, edges, Place, Declaration, Around, Use, Uses, declared_by, place_inside, body_declares, declaring, operand_declares}
+use Rattle.pattern_check.specs.Scopes.{operands_declare, path_declares, declarations, uses_in, uses_in_any, around_inside, names_in, body_variables, body_uses, part_uses, using}
+use Rattle.pattern_check.specs.Scopes.{path_uses, nothing_around, uses, body_conditions, row_conditions, part_conditions, conditions, path_conditions, wheres, declares}
+use Rattle.pattern_check.specs.Scopes.{first_declaration}
 use Rattle.pattern_check.specs.Graphs.{is_label, elements_of_kind, has_property}
 use Rattle.pattern_check.specs.FormRules as forms
 use Rattle.pattern_check.specs.FormRules.{Form, form_faults}
@@ -51,7 +56,8 @@ both : {X : Type 0} (Q : X → Type 0) (xs ys : List X) → AllByRecursion Q xs 
 both Q [] ys h g = g
 both Q (x ∷ xs) ys h g = (h.0, both Q xs ys h.1 g)
 
-each : {X Y : Type 0} (Q : X → Type 0) (R : Y → Type 0) (f : X → List Y) → ((x : X) → Q x → AllByRecursion R (f x)) → (xs : List X) → AllByRecursion Q xs → AllByRecursion R (flat_map f xs)
+each : {X Y : Type 0} (Q : X → Type 0) (R : Y → Type 0) (f : X → List Y) → ((x : X) → Q x → AllByRecursion R (f x)) → (xs : List X) → AllByRecursion Q xs
+    → AllByRecursion R (flat_map f xs)
 each Q R f step [] h = tt
 each Q R f step (x ∷ xs) h = both R (f x) (flat_map f xs) (step x h.0) (each Q R f step xs h.1)
 
@@ -59,7 +65,8 @@ mapped : {X Y : Type 0} (Q : X → Type 0) (R : Y → Type 0) (f : X → Y) → 
 mapped Q R f step [] h = tt
 mapped Q R f step (x ∷ xs) h = (step x h.0, mapped Q R f step xs h.1)
 
-of_rows : {A B : Type 0} (Q : A → Type 0) (R : B → Type 0) (f : A → List B) → ((a : A) → Q a → AllByRecursion R (f a)) → (rows : List (List A)) → AllByRecursion (AllByRecursion Q) rows
+of_rows : {A B : Type 0} (Q : A → Type 0) (R : B → Type 0) (f : A → List B) → ((a : A) → Q a → AllByRecursion R (f a)) → (rows : List (List A))
+    → AllByRecursion (AllByRecursion Q) rows
     → AllByRecursion R (flat_map (flat_map f) rows)
 of_rows Q R f step rows h = each (AllByRecursion Q) R (flat_map f) (λ row k. each Q R f step row k) rows h
 
@@ -163,14 +170,17 @@ module _ (P : Span → Type 0) (nowhere : P (record { from = 0; to = 0 })) where
   at_rows : (inside : Bool) (rows : List (List Form)) → AllByRecursion (AllByRecursion FormHas) rows → Have (flat_map (forms.row_faults inside) rows)
   at_rows inside rows h = of_rows FormHas PF (λ (form : Form). form.faults inside) (λ form k. k inside) rows h
 
-  form_edge : (direction : Direction) (filler : Filler) (q : Option Quantifier) → Spans (of_filler filler) → Spans (if_given of_quantifier q) → FormHas (forms.forms.edge direction filler q)
+  form_edge : (direction : Direction) (filler : Filler) (q : Option Quantifier) → Spans (of_filler filler) → Spans (if_given of_quantifier q)
+      → FormHas (forms.forms.edge direction filler q)
   form_edge direction filler q h k inside =
       pair (forms.undirected_edge direction filler) (forms.quantifier_faults inside q) (at_when _ _ filler.span h.0) (at_quantifier inside q k)
 
-  form_part : (part : Part Form) (q : Option Quantifier) → HasOwn P part → Spans (if_given of_quantifier q) → AllByRecursion (AllByRecursion FormHas) part.body.operands → FormHas (forms.forms.part part q)
+  form_part : (part : Part Form) (q : Option Quantifier) → HasOwn P part → Spans (if_given of_quantifier q) → AllByRecursion (AllByRecursion FormHas) part.body.operands
+      → FormHas (forms.forms.part part q)
   form_part part q own k rows inside =
       pair (forms.own_faults inside part q) (forms.body_faults (inside || is_repeated q) part.body)
-      (four (forms.quantifier_faults inside q) (forms.inner_mode part.mode) (forms.part_without_edge (forms.has_edge part.body) part q) (flat_map forms.inner_union part.body.joints)
+      (four (forms.quantifier_faults inside q) (forms.inner_mode part.mode) (forms.part_without_edge (forms.has_edge part.body) part q)
+      (flat_map forms.inner_union part.body.joints)
       (at_quantifier inside q k) (at_mode part.mode own.mode) (at_when _ _ part.span own.span) (at_joints code.PathUnion part.body.joints own.joints))
       (at_rows (inside || is_repeated q) part.body.operands rows)
 
@@ -186,7 +196,8 @@ module _ (P : Span → Type 0) (nowhere : P (record { from = 0; to = 0 })) where
   unfolding forms.path_faults
   at_form_path path h =
       let body = body_given forms.forms path.body in
-      three (forms.path_variable path.variable) (forms.any_selector path.selector) (forms.top_faults body) (at_path_variable path.variable h.variable) (at_selector path.selector h.selector)
+      three (forms.path_variable path.variable) (forms.any_selector path.selector) (forms.top_faults body) (at_path_variable path.variable h.variable)
+      (at_selector path.selector h.selector)
       (pair (flat_map forms.multiset_union body.joints) (forms.body_faults false body) (at_multiset body.joints (joints_have P forms.forms path.body h.body))
       (at_rows false body.operands (union_given P forms.forms FormHas (λ filler k inside. tt) form_edge form_part path.body h.body)))
 
@@ -212,7 +223,8 @@ module _ (P : Span → Type 0) (nowhere : P (record { from = 0; to = 0 })) where
       (c.1 (first_part P (of_label c.0) (joined (map of_label (map bare_label cs))) h)) (label_rows cs (other_part P (of_label c.0) (joined (map of_label (map bare_label cs))) h))
 
   abbrev LabelLayer : LabelExpr-F LabelExpr → Type 0
-  LabelLayer x = Spans (label_step (map-LabelExpr LabelExpr (List Span) of_label x)) → AllByRecursion PN (names.labels_step (map-LabelExpr LabelExpr (List Named) names.labels_in x))
+  LabelLayer x = Spans (label_step (map-LabelExpr LabelExpr (List Span) of_label x))
+      → AllByRecursion PN (names.labels_step (map-LabelExpr LabelExpr (List Named) names.labels_in x))
 
   label_node : (y : LabelExpr-F LabelChild) → LabelLayer (map-LabelExpr LabelChild LabelExpr bare_label y)
   label_node (LabelExpr-F.Label name) h = h
@@ -223,7 +235,8 @@ module _ (P : Span → Type 0) (nowhere : P (record { from = 0; to = 0 })) where
 
   label_has : (l : LabelExpr) → LabelHas l
   label_has = ind-LabelExpr LabelHas (λ x y is h.
-      subst (AllByRecursion PN) (sym (fold-roll-LabelExpr (List Named) names.labels_step x)) (subst LabelLayer is (label_node y) (subst Spans (fold-roll-LabelExpr (List Span) label_step x) h)))
+      subst (AllByRecursion PN) (sym (fold-roll-LabelExpr (List Named) names.labels_step x))
+      (subst LabelLayer is (label_node y) (subst Spans (fold-roll-LabelExpr (List Span) label_step x) h)))
 
   filler_labels : (filler : Filler) → Spans (of_filler filler) → AllByRecursion PN (names.labels_of filler)
   filler_labels filler h =
@@ -301,7 +314,8 @@ module _ (P : Span → Type 0) (nowhere : P (record { from = 0; to = 0 })) where
   leaf_has leaf h = (h.0, h.1.0)
 
   condition_leaves : (condition : Condition) → ConditionHas condition → AllByRecursion PL (leaves_in condition.tree)
-  condition_leaves condition h = go (leaves_in condition.tree) (flat_parts of_leaf (leaves_in condition.tree) (other_part P condition.spans (flat_map of_leaf (leaves_in condition.tree)) h))
+  condition_leaves condition h = go (leaves_in condition.tree)
+      (flat_parts of_leaf (leaves_in condition.tree) (other_part P condition.spans (flat_map of_leaf (leaves_in condition.tree)) h))
     where
       go : (leaves : List PropertyRef) → AllByRecursion (λ leaf. Spans (of_leaf leaf)) leaves → AllByRecursion PL leaves
       go [] k = tt
@@ -316,7 +330,8 @@ module _ (P : Span → Type 0) (nowhere : P (record { from = 0; to = 0 })) where
   abbrev UsesHave : Uses → Type 0
   UsesHave u = (around : Around) → AllByRecursion PU (u.uses around)
 
-  body_used : (around : Around) (rows : List (List Uses)) → AllByRecursion (AllByRecursion UsesHave) rows → AllByRecursion PU (flat_map (flat_map (λ (factor : Uses). factor.uses around)) rows)
+  body_used : (around : Around) (rows : List (List Uses)) → AllByRecursion (AllByRecursion UsesHave) rows
+      → AllByRecursion PU (flat_map (flat_map (λ (factor : Uses). factor.uses around)) rows)
   body_used around rows h = of_rows UsesHave PU (λ (factor : Uses). factor.uses around) (λ factor k. k around) rows h
 
   part_used : (part : Part Uses) (around : Around) → HasOwn P part → AllByRecursion (AllByRecursion UsesHave) part.body.operands → AllByRecursion PU (part_uses part around)
@@ -385,11 +400,13 @@ module _ (P : Span → Type 0) (nowhere : P (record { from = 0; to = 0 })) where
 
   at_variable : (all : List Declaration) (around : Around) (variable : Named) → P variable.span → Have (names.variable_faults all around variable)
   at_variable all around variable h =
-      three (names.unknown_variable all variable) (names.group_variable all around variable) (names.out_of_scope all around variable) (at_when _ _ variable.span h) (at_when _ _ variable.span h)
+      three (names.unknown_variable all variable) (names.group_variable all around variable) (names.out_of_scope all around variable) (at_when _ _ variable.span h)
+      (at_when _ _ variable.span h)
       (at_when _ _ variable.span h)
 
   at_property : (graph : Graph) (leaf : PropertyRef) → P leaf.property.span → (found : List Declaration)
-      → Have (flat_map (λ (first : Declaration). when (not (list_any (has_property leaf.property.name) (elements_of_kind graph first.kind))) code.UnknownProperty leaf.property.span) found)
+      → Have (flat_map (λ (first : Declaration). when (not (list_any (has_property leaf.property.name) (elements_of_kind graph first.kind))) code.UnknownProperty
+      leaf.property.span) found)
   at_property graph leaf h [] = tt
   at_property graph leaf h (d ∷ found) = pair _ _ (at_when _ code.UnknownProperty leaf.property.span h) (at_property graph leaf h found)
 
@@ -399,7 +416,8 @@ module _ (P : Span → Type 0) (nowhere : P (record { from = 0; to = 0 })) where
       three (names.variable_kind before d) (names.variable_repeated before d) (names.declaration_faults_behind (before ++ d ∷ []) more) (at_when _ _ d.variable.span h.0)
       (at_when _ _ d.variable.span h.0) (at_declarations (before ++ d ∷ []) more h.1)
 
-  at_unlike : (first : List Declaration) (operands : List (List Declaration)) (joints : List Joint) → Spans (map (λ (j : Joint). j.span) joints) → Have (names.unlike_first first operands joints)
+  at_unlike : (first : List Declaration) (operands : List (List Declaration)) (joints : List Joint) → Spans (map (λ (j : Joint). j.span) joints)
+      → Have (names.unlike_first first operands joints)
   at_unlike first [] joints h = tt
   at_unlike first (operand ∷ operands) [] h = tt
   at_unlike first (operand ∷ operands) (j ∷ joints) h =
@@ -415,7 +433,8 @@ module _ (P : Span → Type 0) (nowhere : P (record { from = 0; to = 0 })) where
   at_repeated : (c : Code) (before ns : List Named) → AllByRecursion PN ns → Have (repeated_behind c before ns)
   at_repeated c before [] h = tt
   at_repeated c before (n ∷ ns) h =
-      pair (when (is_among n.name before) c n.span) (repeated_behind c (before ++ n ∷ []) ns) (at_when (is_among n.name before) c n.span h.0) (at_repeated c (before ++ n ∷ []) ns h.1)
+      pair (when (is_among n.name before) c n.span) (repeated_behind c (before ++ n ∷ []) ns) (at_when (is_among n.name before) c n.span h.0)
+      (at_repeated c (before ++ n ∷ []) ns h.1)
 
   -- the leaf of an expression that is one is among its leaves
   abbrev LeafAmong : Expr PropertyRef → Type 0
@@ -459,7 +478,8 @@ module _ (P : Span → Type 0) (nowhere : P (record { from = 0; to = 0 })) where
 
   at_graph : (graph : Graph) (tree : QueryTree) → TreeHas tree → Have (names.graph_faults graph tree)
   at_graph graph tree h =
-      pair (flat_map (names.unknown_label graph) (flat_map names.path_labels tree.paths)) (flat_map (λ (used : Use). names.unknown_property graph (declarations tree) used.leaf) (uses tree))
+      pair (flat_map (names.unknown_label graph) (flat_map names.path_labels tree.paths)) (flat_map (λ (used : Use). names.unknown_property graph (declarations tree) used.leaf)
+      (uses tree))
       (each PN PF (names.unknown_label graph) (λ label k. at_when _ _ label.span k) (flat_map names.path_labels tree.paths)
       (each PathHas PN names.path_labels path_has_labels tree.paths h.paths))
       (each PU PF (λ (used : Use). names.unknown_property graph (declarations tree) used.leaf)
@@ -590,7 +610,8 @@ module _ (P : Span → Type 0) (nowhere : P (record { from = 0; to = 0 })) where
     at_where : (condition : Condition) → ConditionHas condition → Have (types.where_faults leaf condition)
     at_where condition h =
         pair _ (types.condition_faults leaf condition)
-        (at_when _ _ (own_span condition.spans) (first_has condition.spans (first_part P condition.spans (flat_map of_leaf (leaves_in condition.tree)) h))) (at_condition condition h)
+        (at_when _ _ (own_span condition.spans) (first_has condition.spans (first_part P condition.spans (flat_map of_leaf (leaves_in condition.tree)) h)))
+        (at_condition condition h)
 
   -- ---- conditions
 
@@ -640,7 +661,8 @@ module _ (P : Span → Type 0) (nowhere : P (record { from = 0; to = 0 })) where
       (λ part q own k rows. pair (sizes.large_quantifier q) (sizes.inner_faults part.body) (at_large q k) (at_inner part.body.operands rows)) path.body h.body))
       (at_when _ _ path.span h.span) (at_when _ _ path.span h.span)
 
-  at_ninth : (n : ℕ) (paths : List PathTree) → AllByRecursion PathHas paths → Have (map (λ (ninth : PathTree). fault code.TooManyPaths ninth.span) (option_to_list (slice_get paths n)))
+  at_ninth : (n : ℕ) (paths : List PathTree) → AllByRecursion PathHas paths
+      → Have (map (λ (ninth : PathTree). fault code.TooManyPaths ninth.span) (option_to_list (slice_get paths n)))
   at_ninth zero [] h = tt
   at_ninth (suc n) [] h = tt
   at_ninth zero (path ∷ paths) h = (h.0.span, tt)
@@ -649,7 +671,8 @@ module _ (P : Span → Type 0) (nowhere : P (record { from = 0; to = 0 })) where
   at_sizes : (tree : QueryTree) → TreeHas tree → Have (size_faults tree)
   unfolding size_faults
   at_sizes tree h =
-      pair (flat_map sizes.path_faults tree.paths) (sizes.too_many_paths tree.paths) (each PathHas PF sizes.path_faults at_size_path tree.paths h.paths) (at_ninth 8 tree.paths h.paths)
+      pair (flat_map sizes.path_faults tree.paths) (sizes.too_many_paths tree.paths) (each PathHas PF sizes.path_faults at_size_path tree.paths h.paths)
+      (at_ninth 8 tree.paths h.paths)
 
   -- ---- the first fault
 

@@ -15,7 +15,8 @@ use Rattle.expr_tree.proofs.JudgementLemmas.{judged_class}
 use Rattle.first_faults.specs.declared.faults.Fault.{Fault}
 use Rattle.first_faults.specs.Faults.{when}
 use Rattle.graph_meaning.proofs.Members.{both_parts, both_true}
-use Rattle.pattern_check.specs.TypeRules.{Operand, Typed, class_differs, classes_differ, not_truth, not_truths, own_span, side_by_side, operand_of, child_faults, faults_at, typed_step, typed}
+use Rattle.pattern_check.specs.TypeRules.{Operand, Typed, class_differs, classes_differ, not_truth, not_truths, own_span, side_by_side, operand_of, child_faults, faults_at}
+use Rattle.pattern_check.specs.TypeRules.{typed_step, typed}
 use Rattle.pattern_check.specs.Lowerable.{spelled_step}
 use Rattle.pattern_check.proofs.Faultless.{left_none, right_none, not_when}
 

@@ -25,8 +25,10 @@ use Rattle.graph_ast.specs.declared.checked.Piece.{Piece}
 use Rattle.graph_ast.specs.declared.checked.Piece.TheVariants as piece
 use Rattle.graph_ast.specs.Lookups.{graph_at}
 use Rattle.graph_ast.specs.Patterns.{Part, given_by, body_given, part_given}
-use Rattle.pattern_check.specs.Scopes.{Around, Use, Uses, uses_in, uses_in_any, names_in, around_inside, body_variables, body_uses, using, path_uses, nothing_around, uses, row_conditions, body_conditions, conditions, path_conditions, wheres}
-use Rattle.pattern_check.specs.Checked.{Leafed, Spliced, splice, quantified, element, pattern_for, conditions_for, checked_condition, body_spliced, part_spliced, splicing, checked_path, unweighed_at}
+use Rattle.pattern_check.specs.Scopes.{Around, Use, Uses, uses_in, uses_in_any, names_in, around_inside, body_variables, body_uses, using, path_uses, nothing_around, uses}
+use Rattle.pattern_check.specs.Scopes.{row_conditions, body_conditions, conditions, path_conditions, wheres}
+use Rattle.pattern_check.specs.Checked.{Leafed, Spliced, splice, quantified, element, pattern_for, conditions_for, checked_condition, body_spliced, part_spliced, splicing}
+use Rattle.pattern_check.specs.Checked.{checked_path, unweighed_at}
 use Rattle.pattern_check.specs.Lowerable.{conditions_in, conditions_of}
 use Rattle.pattern_check.proofs.Opened.{condition_inside}
 use Rattle.pattern_check.proofs.Factors.{together, given_vertex, given_edge, given_part, part_operands, operands_given, rows_of, rows_in, Each, each_union}

@@ -1,5 +1,6 @@
 -- A name of a query without faults stands for vertices or for edges, and not for both.
-use Rattle.std.proofs.Common.{◌≡◌, ℕ, ◌+◌, ◌⊎◌, Bool, true, false, not, ◌&&◌, List, [], ◌∷◌, ◌++◌, map, refl, sym, ap, ap₂, subst, ◌∙◌, Option, None, Some, bytes_eq, append_assoc, option_map, option_to_list, inl, inr}
+use Rattle.std.proofs.Common.{◌≡◌, ℕ, ◌+◌, ◌⊎◌, Bool, true, false, not, ◌&&◌, List, [], ◌∷◌, ◌++◌, map, refl, sym, ap, ap₂, subst, ◌∙◌, Option, None, Some, bytes_eq}
+use Rattle.std.proofs.Common.{append_assoc, option_map, option_to_list, inl, inr}
 use Rattle.std.specs.List.{AllByRecursion, flat_map, enumerate_from, list_any}
 use Rattle.std.proofs.lemmas.Cmp.{nat_list_eq_equiv}
 use Rattle.std.proofs.lemmas.List.{append-nil, map-append}

@@ -1,5 +1,6 @@
 -- The path patterns of a query without faults of forms and limits have bounds in order, few choices and short ones.
-use Rattle.std.proofs.Common.{◌≡◌, ℕ, zero, suc, ◌+◌, ◌-◌, ◌*◌, ◌<◌, ◌≤◌, max, Bool, true, false, not, ◌&&◌, ◌||◌, List, [], ◌∷◌, ◌++◌, length, map, replicate, get_or, refl, sym, ap, ap₂, subst, ◌∙◌, Option, None, Some, arith, inl, inr, nat_lt, nat_eq}
+use Rattle.std.proofs.Common.{◌≡◌, ℕ, zero, suc, ◌+◌, ◌-◌, ◌*◌, ◌<◌, ◌≤◌, max, Bool, true, false, not, ◌&&◌, ◌||◌, List, [], ◌∷◌, ◌++◌, length, map, replicate, get_or, refl, sym}
+use Rattle.std.proofs.Common.{ap, ap₂, subst, ◌∙◌, Option, None, Some, arith, inl, inr, nat_lt, nat_eq}
 use Rattle.std.specs.List.{AllByRecursion, flat_map, list_all, range_with_len, sum_by}
 use Rattle.std.proofs.lemmas.Bool.Decides.{nat_tests}
 use Rattle.std.proofs.lemmas.List.{append-nil, length-append, length-map}
@@ -34,8 +35,11 @@ use Rattle.pattern_check.specs.declared.measures.Measure.{Measure}
 use Rattle.graph_ast.specs.Patterns.{Body, Part, given_by, body_given, part_given, is_optional, is_repeated, is_joined, joining}
 use Rattle.pattern_check.specs.FormRules as rules
 use Rattle.pattern_check.specs.SizeRules as limits
-use Rattle.pattern_check.specs.FormRules.{path_variable, any_selector, is_unbounded, is_reversed, Form, forms, row_faults, body_faults, own_faults, part_faults, has_edge, inner_union, inner_mode, part_without_edge, unbounded_quantifier, optional_part, nested_part, quantifier_order, quantifier_faults_of, quantifier_faults, undirected_edge, top_faults, multiset_union}
-use Rattle.pattern_check.specs.SizeRules.{too_many_choices, path_too_long, product, counts_allowed, greatest_count, sequence_measure, union_measure, body_measure, repeated_measure, measuring, path_measure, is_too_large, large_quantifier, joined, inner_faults, large}
+use Rattle.pattern_check.specs.FormRules.{path_variable, any_selector, is_unbounded, is_reversed, Form, forms, row_faults, body_faults, own_faults, part_faults, has_edge}
+use Rattle.pattern_check.specs.FormRules.{inner_union, inner_mode, part_without_edge, unbounded_quantifier, optional_part, nested_part, quantifier_order, quantifier_faults_of}
+use Rattle.pattern_check.specs.FormRules.{quantifier_faults, undirected_edge, top_faults, multiset_union}
+use Rattle.pattern_check.specs.SizeRules.{too_many_choices, path_too_long, product, counts_allowed, greatest_count, sequence_measure, union_measure, body_measure}
+use Rattle.pattern_check.specs.SizeRules.{repeated_measure, measuring, path_measure, is_too_large, large_quantifier, joined, inner_faults, large}
 use Rattle.pattern_check.specs.Checked.{Spliced, splice, pieces_of, lower_bound, upper_bound, quantified, element, pattern_for, body_spliced, part_spliced, splicing, checked_path}
 use Rattle.pattern_check.specs.Lowerable.{IsBounded, IsShortPath}
 use Rattle.pattern_check.proofs.Factors.{together, given_vertex, given_edge, given_part, part_operands, operands_given, rows_of, rows_in, Each, each_union}

@@ -1,5 +1,6 @@
 -- A query without faults is lowerable.
-use Rattle.std.proofs.Common.{◌≡◌, ℕ, zero, suc, ◌≤◌, false, List, [], ◌∷◌, ◌++◌, length, map, refl, sym, subst, Option, None, Some, slice_get, unwrap_or, option_to_list, bytes_eq, nat_lt, arith}
+use Rattle.std.proofs.Common.{◌≡◌, ℕ, zero, suc, ◌≤◌, false, List, [], ◌∷◌, ◌++◌, length, map, refl, sym, subst, Option, None, Some, slice_get, unwrap_or, option_to_list}
+use Rattle.std.proofs.Common.{bytes_eq, nat_lt, arith}
 use Rattle.std.specs.List.{AllByRecursion, flat_map, list_all}
 use Rattle.std.proofs.lemmas.List.{length-map}
 use Rattle.std.proofs.lemmas.List.Quantifiers.{position-Some}
@@ -24,7 +25,8 @@ use Rattle.pattern_check.specs.FormRules as rules
 use Rattle.pattern_check.specs.SizeRules as limits
 use Rattle.pattern_check.specs.SizeRules.{size_faults, too_many_paths}
 use Rattle.pattern_check.specs.FormRules.{form_faults}
-use Rattle.pattern_check.specs.NameRules.{unknown_label, path_labels, unknown_property, variable_faults, declaration_faults_behind, union_faults, column_faults, faults_by_graph, name_faults}
+use Rattle.pattern_check.specs.NameRules.{unknown_label, path_labels, unknown_property, variable_faults, declaration_faults_behind, union_faults, column_faults, faults_by_graph}
+use Rattle.pattern_check.specs.NameRules.{name_faults}
 use Rattle.pattern_check.specs.TypeRules.{leaf_class, condition_faults, where_faults, type_faults}
 use Rattle.pattern_check.specs.Checked.{checked_path, output, with_weight, unweighed_at, unweighed, checked}
 use Rattle.pattern_check.specs.Phases.{Phase, lowering_too_large, query_faults, or_then, first_fault}

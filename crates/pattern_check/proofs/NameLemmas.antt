@@ -1,5 +1,6 @@
 -- Looking declarations up by the names of those of which a test holds.
-use Rattle.std.proofs.Common.{◌≡◌, ◌∙◌, ℕ, suc, Bool, true, false, ◌||◌, ◌&&◌, not, cond, ap, sym, refl, List, [], ◌∷◌, ◌++◌, map, Option, None, Some, option_map, slice_get, bytes_eq}
+use Rattle.std.proofs.Common.{◌≡◌, ◌∙◌, ℕ, suc, Bool, true, false, ◌||◌, ◌&&◌, not, cond, ap, sym, refl, List, [], ◌∷◌, ◌++◌, map, Option, None, Some, option_map, slice_get}
+use Rattle.std.proofs.Common.{bytes_eq}
 use Rattle.std.specs.List.{list_any, list_all}
 use Rattle.std.specs.Cmp.Lexicographic.{bytes_decides, nat_list_eq_equiv}
 use Rattle.std.proofs.lemmas.List.Folds.{list_all-append}

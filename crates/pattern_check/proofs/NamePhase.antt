@@ -1,5 +1,6 @@
 -- What the phase names puts together.
-use Rattle.std.proofs.Common.{add-one, ◌≡◌, ◌∙◌, ℕ, zero, suc, ◌+◌, ◌<◌, ap, sym, refl, List, [], ◌∷◌, ◌++◌, length, drop, get_or, map, Option, None, Some, slice_get, option_to_list, bytes_eq}
+use Rattle.std.proofs.Common.{add-one, ◌≡◌, ◌∙◌, ℕ, zero, suc, ◌+◌, ◌<◌, ap, sym, refl, List, [], ◌∷◌, ◌++◌, length, drop, get_or, map, Option, None, Some, slice_get}
+use Rattle.std.proofs.Common.{option_to_list, bytes_eq}
 use Rattle.std.specs.List.{flat_map}
 use Rattle.std.proofs.lemmas.List.{drop_more, append-nil}
 use Rattle.std.proofs.lemmas.List.Quantifiers.{position-Some}

@@ -1,5 +1,6 @@
 -- The properties of elements, found by name.
-use Rattle.std.proofs.Common.{◌≡◌, ◌∙◌, ℕ, ◌+◌, ◌<◌, Bool, true, false, ◌||◌, cond, ap, sym, refl, List, [], ◌∷◌, ◌++◌, map, drop, length, get_or, append_assoc, is_some, Some, bytes_eq}
+use Rattle.std.proofs.Common.{◌≡◌, ◌∙◌, ℕ, ◌+◌, ◌<◌, Bool, true, false, ◌||◌, cond, ap, sym, refl, List, [], ◌∷◌, ◌++◌, map, drop, length, get_or, append_assoc, is_some, Some}
+use Rattle.std.proofs.Common.{bytes_eq}
 use Rattle.std.specs.List.{flat_map, list_any}
 use Rattle.std.proofs.lemmas.List.{drop_more}
 use Rattle.graph_ast.specs.declared.catalog.Element.{Element}

@@ -14,8 +14,10 @@ use Rattle.graph_ast.specs.declared.query.Factor.{Factor}
 use Rattle.graph_ast.specs.declared.query.Factor.TheVariants as v
 use Rattle.graph_ast.specs.declared.query.Factor.TheOpen.{Factor-F}
 use Rattle.graph_ast.specs.declared.query.Factor.TheFolds.{fold-roll-Factor, fold_out-PartTree, fold_out-Sequence, fold_out-Union}
-use Rattle.graph_ast.specs.Patterns.{Giving, Part, Body, given_by, part_given, body_given, factor_step as giving_step, part_step as part_giving, sequence_step as sequence_giving, body_step as body_giving}
-use Rattle.graph_ast.specs.QuerySpans.{if_given, of_mode, of_quantifier, of_filler, of_condition, of_factor, of_part, of_sequence, of_union, factor_step, part_step, sequence_step, union_step}
+use Rattle.graph_ast.specs.Patterns.{Giving, Part, Body, given_by, part_given, body_given, factor_step as giving_step, part_step as part_giving, sequence_step as sequence_giving}
+use Rattle.graph_ast.specs.Patterns.{body_step as body_giving}
+use Rattle.graph_ast.specs.QuerySpans.{if_given, of_mode, of_quantifier, of_filler, of_condition, of_factor, of_part, of_sequence, of_union, factor_step, part_step}
+use Rattle.graph_ast.specs.QuerySpans.{sequence_step, union_step}
 use Rattle.pattern_check.proofs.Factors.{given_vertex, given_edge, given_part, part_operands, operands_given, rows_in, rows_of, Each, each_factor}
 use Rattle.pattern_check.proofs.Opened.{joints_inside}
 
@@ -93,7 +95,8 @@ module _ (P : Span → Type 0) where
       let raw = out-PartTree part in
       let is = fold_out-PartTree A (Part A) (List A) (Body A) (giving_step giving) part_giving sequence_giving body_giving part in
       let all : All (raw.span ∷ (if_given of_mode raw.mode ++ (of_union raw.body ++ if_given of_condition raw.condition))) = subst All (inside_spans part) h in
-      let behind : All (of_union raw.body ++ if_given of_condition raw.condition) = other_part (if_given of_mode raw.mode) (of_union raw.body ++ if_given of_condition raw.condition) all.1 in
+      let behind : All (of_union raw.body ++ if_given of_condition raw.condition) = other_part (if_given of_mode raw.mode)
+      (of_union raw.body ++ if_given of_condition raw.condition) all.1 in
       subst HasOwn (sym is) (record {
         span = all.0;
         mode = first_part (if_given of_mode raw.mode) (of_union raw.body ++ if_given of_condition raw.condition) all.1;
@@ -106,14 +109,16 @@ module _ (P : Span → Type 0) where
       let raw = out-PartTree part in
       let all : All (raw.span ∷ (if_given of_mode raw.mode ++ (of_union raw.body ++ if_given of_condition raw.condition))) = subst All (inside_spans part) h in
       rows_have raw.body
-      (first_part (of_union raw.body) (if_given of_condition raw.condition) (other_part (if_given of_mode raw.mode) (of_union raw.body ++ if_given of_condition raw.condition) all.1))
+      (first_part (of_union raw.body) (if_given of_condition raw.condition)
+      (other_part (if_given of_mode raw.mode) (of_union raw.body ++ if_given of_condition raw.condition) all.1))
 
   -- ---- what is given for each factor
 
   module _ {A : Type 0} (giving : Giving A) (Q : A → Type 0)
       (vertex : (filler : Filler) → All (of_filler filler) → Q (giving.vertex filler))
       (edge : (direction : Direction) (filler : Filler) (q : Option Quantifier) → All (of_filler filler) → All (if_given of_quantifier q) → Q (giving.edge direction filler q))
-      (part : (part : Part A) (q : Option Quantifier) → HasOwn part → All (if_given of_quantifier q) → AllByRecursion (AllByRecursion Q) part.body.operands → Q (giving.part part q))
+      (part : (part : Part A) (q : Option Quantifier) → HasOwn part → All (if_given of_quantifier q) → AllByRecursion (AllByRecursion Q) part.body.operands
+      → Q (giving.part part q))
     where
       abbrev IsGiven : Factor → Type 0
       IsGiven factor = HasSpans factor → Q (given_by giving factor)

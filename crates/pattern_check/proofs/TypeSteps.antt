@@ -19,7 +19,8 @@ use Rattle.first_faults.specs.Faults.{first_of}
 use Rattle.first_faults.proofs.Steps.{first_of_append}
 use Rattle.pattern_check.specs.declared.types.Wanted.{Wanted}
 use Rattle.pattern_check.specs.declared.types.Wanted.TheVariants.{Anything, Truths, Alike, Of}
-use Rattle.pattern_check.specs.TypeRules.{Operand, Typed, class_differs, classes_differ, not_truth, not_truths, node_faults, own_span, side_by_side, operand_of, child_faults, faults_at, typed_step, typed}
+use Rattle.pattern_check.specs.TypeRules.{Operand, Typed, class_differs, classes_differ, not_truth, not_truths, node_faults, own_span, side_by_side, operand_of, child_faults}
+use Rattle.pattern_check.specs.TypeRules.{faults_at, typed_step, typed}
 use Rattle.pattern_check.specs.Typing.{misfit, next, asked_for, class_asked, Told, judge, Seen, begun, joined, with_operand, with_operands, finished}
 use Rattle.pattern_check.proofs.Together.{first_of_found}
 

@@ -11,7 +11,8 @@ use Rattle.first_faults.specs.Names.{has_text}
 use Rattle.pgq_base.specs.declared.code.Code.TheVariants as code
 use Rattle.pattern_check.specs.Scopes.{Declaration, Around, declares, first_declaration}
 use Rattle.pattern_check.specs.Graphs.{elements_of_kind, has_property}
-use Rattle.pattern_check.specs.NameRules.{is_declared, is_group, is_out_of_reach, is_out_of_scope, same_truth, has_variables_of, variables_differ, unlike_first, unlike_among, variable_faults, unknown_property}
+use Rattle.pattern_check.specs.NameRules.{is_declared, is_group, is_out_of_reach, is_out_of_scope, same_truth, has_variables_of, variables_differ, unlike_first, unlike_among}
+use Rattle.pattern_check.specs.NameRules.{variable_faults, unknown_property}
 use Rattle.pattern_check.specs.Mentions.{unplaced}
 
 pub any_mapped : {X Y : Type 0} (p : Y → Bool) (f : X → Y) (xs : List X) → list_any p (map f xs) ≡ list_any (λ x. p (f x)) xs

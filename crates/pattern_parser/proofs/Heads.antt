@@ -14,7 +14,8 @@ use Rattle.condition_grammar.specs.Conditions as g
 use Rattle.graph_ast.specs.declared.query.PropertyRef.{PropertyRef}
 use Rattle.condition_grammar.specs.Spans.{unless_none}
 use Rattle.pattern_parser.specs.Insides.{Own, HeldOwn, Production}
-use Rattle.pattern_parser.specs.Tests.{Tree, put_name, own_operand, dotted, date_text, test_tail, truth_test, with_tail, relation, after_name, after_group_word, unnamed_operand, test_from}
+use Rattle.pattern_parser.specs.Tests.{Tree, put_name, own_operand, dotted, date_text, test_tail, truth_test, with_tail, relation, after_name, after_group_word, unnamed_operand}
+use Rattle.pattern_parser.specs.Tests.{test_from}
 use Rattle.pattern_parser.specs.Conditions.{operand, date_test, group_word_test}
 use Rattle.pattern_parser.specs.Reading.{reads, at_depth}
 

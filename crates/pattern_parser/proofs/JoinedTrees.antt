@@ -25,16 +25,19 @@ use Rattle.pattern_parser.specs.declared.pieces.EdgePattern.{EdgePattern}
 use Rattle.pattern_parser.specs.declared.pieces.PartContent.{PartContent}
 use Rattle.pattern_parser.specs.declared.pieces.Placed.{Placed}
 use Rattle.pattern_parser.specs.Insides.{Own, HeldInside, Production, list, after, parens}
-use Rattle.pattern_parser.specs.Patterns.{node_of, placed, reach_over, part_of, part_at, part_or_vertex, factor, sequence_of, sequence, Joined, joint_in, operand_in, sequence_in, union_of, union, path}
+use Rattle.pattern_parser.specs.Patterns.{node_of, placed, reach_over, part_of, part_at, part_or_vertex, factor, sequence_of, sequence, Joined, joint_in, operand_in, sequence_in}
+use Rattle.pattern_parser.specs.Patterns.{union_of, union, path}
 use Rattle.pattern_parser.specs.Queries.{part, table, query, inside}
 use Rattle.pattern_parser.specs.Outcomes.{SpellsQuery}
-use Rattle.pattern_parser.proofs.Ranges.{Holds, Anything, Both, Chain, Given, Gives, Bracketed, any_gives, mapped_gives, seq_gives, either_gives, many_gives, nest_gives, fork_gives}
+use Rattle.pattern_parser.proofs.Ranges.{Holds, Anything, Both, Chain, Given, Gives, Bracketed, any_gives, mapped_gives, seq_gives, either_gives, many_gives, nest_gives}
+use Rattle.pattern_parser.proofs.Ranges.{fork_gives}
 
 -- ---- each form of pattern
 
 vertex_joined : (filler : Filler) → given_by joining (factor_is.Vertex filler) ≡ true
 vertex_joined filler =
-    ap (given_by joining) (sym (factor_is.rolls-Vertex filler)) ∙ fold-roll-Factor Bool (Part Bool) (List Bool) (Body Bool) (factor_step joining) part_step sequence_step body_step (Factor-F.Vertex filler)
+    ap (given_by joining) (sym (factor_is.rolls-Vertex filler)) ∙ fold-roll-Factor Bool (Part Bool) (List Bool) (Body Bool) (factor_step joining) part_step sequence_step
+    body_step (Factor-F.Vertex filler)
 
 edge_joined : (direction : Direction) (filler : Filler) (q : Option Quantifier) → given_by joining (factor_is.Edge direction filler q) ≡ true
 edge_joined direction filler q =
@@ -43,7 +46,8 @@ edge_joined direction filler q =
 
 part_joined : (p : PartTree) (q : Option Quantifier) → given_by joining (factor_is.Part p q) ≡ is_joined (part_given joining p).body
 part_joined p q =
-    ap (given_by joining) (sym (factor_is.rolls-Part p q)) ∙ fold-roll-Factor Bool (Part Bool) (List Bool) (Body Bool) (factor_step joining) part_step sequence_step body_step (Factor-F.Part p q)
+    ap (given_by joining) (sym (factor_is.rolls-Part p q)) ∙ fold-roll-Factor Bool (Part Bool) (List Bool) (Body Bool) (factor_step joining) part_step sequence_step body_step
+    (Factor-F.Part p q)
 
 part_body : (c : PartContent) (span : Span) → (part_given joining (part_of c span)).body ≡ body_given joining c.body
 part_body c span =
@@ -54,8 +58,10 @@ part_body c span =
 sequence_is : (factors : List Factor) → sequence_given joining (sequence_of factors) ≡ map (given_by joining) factors
 sequence_is factors = fold-roll-Sequence Bool (Part Bool) (List Bool) (Body Bool) (factor_step joining) part_step sequence_step body_step (record { factors = factors })
 
-union_is : (operands : List Sequence) (joints : List Joint) → body_given joining (roll-Union (record { operands = operands; joints = joints })) ≡ record { operands = map (sequence_given joining) operands; joints = joints }
-union_is operands joints = fold-roll-Union Bool (Part Bool) (List Bool) (Body Bool) (factor_step joining) part_step sequence_step body_step (record { operands = operands; joints = joints })
+union_is : (operands : List Sequence) (joints : List Joint) → body_given joining (roll-Union (record { operands = operands; joints = joints }))
+    ≡ record { operands = map (sequence_given joining) operands; joints = joints }
+union_is operands joints = fold-roll-Union Bool (Part Bool) (List Bool) (Body Bool) (factor_step joining) part_step sequence_step body_step
+    (record { operands = operands; joints = joints })
 
 -- ---- what holds of each
 
@@ -101,7 +107,8 @@ BehindJoint = Both Anything SequenceJoined
 operands_joined : (at end : ℕ) (more : List Joined) → Chain BehindJoint at end more → list_all (list_all (λ b. b)) (map (sequence_given joining) (map sequence_in more)) ≡ true
 operands_joined at end [] h = refl
 operands_joined at end (d ∷ more) (middle, l, u, first, rest) =
-    both_true (list_all (λ b. b) (sequence_given joining d.1.node)) (list_all (list_all (λ b. b)) (map (sequence_given joining) (map sequence_in more))) first.second (operands_joined middle end more rest)
+    both_true (list_all (λ b. b) (sequence_given joining d.1.node)) (list_all (list_all (λ b. b)) (map (sequence_given joining) (map sequence_in more))) first.second
+    (operands_joined middle end more rest)
 
 nat_eq_refl : (n : ℕ) → nat_eq n n ≡ true
 nat_eq_refl n = nat_eq_equiv.refl n
@@ -111,9 +118,11 @@ as_long [] = refl
 as_long (d ∷ more) = ap suc (as_long more)
 
 as_many : (more : List Joined) → nat_eq (suc (length (map (sequence_given joining) (map sequence_in more)))) (suc (length (map joint_in more))) ≡ true
-as_many more = subst (λ n. nat_eq (suc (length (map (sequence_given joining) (map sequence_in more)))) (suc n) ≡ true) (as_long more) (nat_eq_refl (suc (length (map (sequence_given joining) (map sequence_in more)))))
+as_many more = subst (λ n. nat_eq (suc (length (map (sequence_given joining) (map sequence_in more)))) (suc n) ≡ true) (as_long more)
+    (nat_eq_refl (suc (length (map (sequence_given joining) (map sequence_in more)))))
 
-union_joined : (at end : ℕ) (d : Placed Sequence × List Joined) (span : Span) → Both SequenceJoined (Chain BehindJoint) at end d → UnionJoined at end (placed (union_of d.0.node d.1) span)
+union_joined : (at end : ℕ) (d : Placed Sequence × List Joined) (span : Span) → Both SequenceJoined (Chain BehindJoint) at end d
+    → UnionJoined at end (placed (union_of d.0.node d.1) span)
 union_joined at end d span h =
     let own = sequence_given joining d.0.node in
     let others = map (sequence_given joining) (map sequence_in d.1) in
@@ -121,7 +130,8 @@ union_joined at end d span h =
     ∙ both_true (nat_eq (length (own ∷ others)) (suc (length (map joint_in d.1)))) (list_all (list_all (λ b. b)) (own ∷ others)) (as_many d.1)
     (both_true (list_all (λ b. b) own) (list_all (list_all (λ b. b)) others) h.first (operands_joined h.middle end d.1 h.second))
 
-part_at_joined : (first last : Span) (c : PartContent) (q : Option Quantifier) → is_joined (body_given joining c.body) ≡ true → given_by joining (part_at first last c q).node ≡ true
+part_at_joined : (first last : Span) (c : PartContent) (q : Option Quantifier) → is_joined (body_given joining c.body) ≡ true → given_by joining (part_at first last c q).node
+    ≡ true
 part_at_joined first last c q h = part_joined (part_of c _) q ∙ ap is_joined (part_body c _) ∙ h
 
 paths_joined : (at end : ℕ) (paths : List PathTree) → Chain PathJoined at end paths → AllByRecursion IsJoined paths
@@ -157,7 +167,8 @@ module _ (n : ℕ) (inner : (k : Inside Own) → Given (within class inside n k)
 
   in_union : Gives n union UnionJoined
   unfolding union
-  in_union = mapped_gives n (seq_gives n in_sequence (many_gives n (seq_gives n (any_gives n) in_sequence))) (λ at end le d h. union_joined at end d (reach_over d.0 (map operand_in d.1)) h)
+  in_union = mapped_gives n (seq_gives n in_sequence (many_gives n (seq_gives n (any_gives n) in_sequence)))
+      (λ at end le d h. union_joined at end d (reach_over d.0 (map operand_in d.1)) h)
 
   in_path : Gives n path PathJoined
   unfolding path

@@ -24,10 +24,14 @@ use Rattle.pattern_parser.specs.declared.pieces.EdgePattern.{EdgePattern}
 use Rattle.pattern_parser.specs.declared.pieces.Placed.{Placed}
 use Rattle.pattern_parser.specs.declared.pieces.Prefix.{Prefix}
 use Rattle.pattern_parser.specs.Insides.{Own, number}
-use Rattle.pattern_parser.specs.Patterns.{placed, node_of, last_place, reach_over, reach_with, part_of, part_at, vertex_at, edge_at, part_or_vertex, factor, sequence_of, sequence, joint_of, joint, Joined, joint_in, operand_in, sequence_in, union_of, union, prefix_of, mode_and_noun, kind_of_any, any_of, shortest_of, all_prefix, any_prefix, shortest_prefix, prefix, selector_in, mode_in as mode_of, path_from, path_of, path}
+use Rattle.pattern_parser.specs.Patterns.{placed, node_of, last_place, reach_over, reach_with, part_of, part_at, vertex_at, edge_at, part_or_vertex, factor, sequence_of}
+use Rattle.pattern_parser.specs.Patterns.{sequence, joint_of, joint, Joined, joint_in, operand_in, sequence_in, union_of, union, prefix_of, mode_and_noun, kind_of_any, any_of}
+use Rattle.pattern_parser.specs.Patterns.{shortest_of, all_prefix, any_prefix, shortest_prefix, prefix, selector_in, mode_in as mode_of, path_from, path_of, path}
 use Rattle.pattern_parser.specs.Queries.{inside}
-use Rattle.graph_ast.specs.QuerySpans.{if_given, of_name, of_mode, of_quantifier, of_filler, of_condition, of_factor, of_part, of_sequence, of_union, of_selector, of_path, factor_step, part_step, sequence_step, union_step}
-use Rattle.pattern_parser.proofs.Ranges.{In, AllIn, Holds, Both, IfGiven, Chain, Given, Gives, any_gives, one_gives, mapped_gives, seq_gives, either_gives, opt_gives, many_gives, fork_gives}
+use Rattle.graph_ast.specs.QuerySpans.{if_given, of_name, of_mode, of_quantifier, of_filler, of_condition, of_factor, of_part, of_sequence, of_union, of_selector, of_path}
+use Rattle.graph_ast.specs.QuerySpans.{factor_step, part_step, sequence_step, union_step}
+use Rattle.pattern_parser.proofs.Ranges.{In, AllIn, Holds, Both, IfGiven, Chain, Given, Gives, any_gives, one_gives, mapped_gives, seq_gives, either_gives, opt_gives, many_gives}
+use Rattle.pattern_parser.proofs.Ranges.{fork_gives}
 use Rattle.pattern_parser.proofs.SpanLists.{wider, reaches, all_wider, all_append, Spans, left_all, given_all}
 use Rattle.pattern_parser.proofs.PatternSpans.{the_in, name_in, mode_in, mode_part_in, quantifier_in, of_content, EdgeIn, edge_in}
 

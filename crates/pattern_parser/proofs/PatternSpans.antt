@@ -17,10 +17,12 @@ use Rattle.pattern_parser.specs.declared.pieces.Content.{Content}
 use Rattle.pattern_parser.specs.declared.pieces.EdgePattern.{EdgePattern}
 use Rattle.pattern_parser.specs.declared.pieces.EdgeEnd.{EdgeEnd}
 use Rattle.pattern_parser.specs.Insides.{Own, Production, the, name, after}
-use Rattle.pattern_parser.specs.Patterns.{and_of, or_of, not_label, label_primary, label_not, label_and, label_union, mode_for, mode, mode_part, quantifier, no_content, in_square, edge_end, wave_end, left_edge, edge, edge_of, direction, pointed, dashed, waved}
+use Rattle.pattern_parser.specs.Patterns.{and_of, or_of, not_label, label_primary, label_not, label_and, label_union, mode_for, mode, mode_part, quantifier, no_content}
+use Rattle.pattern_parser.specs.Patterns.{in_square, edge_end, wave_end, left_edge, edge, edge_of, direction, pointed, dashed, waved}
 use Rattle.pattern_parser.specs.Queries.{inside}
 use Rattle.graph_ast.specs.QuerySpans.{if_given, of_name, of_mode, of_quantifier, of_label, label_step, of_filler, of_condition}
-use Rattle.pattern_parser.proofs.Ranges.{In, AllIn, Holds, IfGiven, Given, Gives, Bracketed, any_gives, one_gives, mapped_gives, seq_gives, either_gives, opt_gives, many_gives, nest_gives}
+use Rattle.pattern_parser.proofs.Ranges.{In, AllIn, Holds, IfGiven, Given, Gives, Bracketed, any_gives, one_gives, mapped_gives, seq_gives, either_gives, opt_gives, many_gives}
+use Rattle.pattern_parser.proofs.Ranges.{nest_gives}
 use Rattle.pattern_parser.proofs.SpanLists.{wider, reaches, all_wider, all_append, Spans, left_all, right_all, chain_all, joined_map}
 
 -- ---- names, words, and what stands behind a word

@@ -29,10 +29,12 @@ use Rattle.pattern_parser.specs.declared.pieces.Placed.{Placed}
 use Rattle.pattern_parser.specs.Insides.{Own, HeldOwn, Production, name, list, parens, condition_of}
 use Rattle.pattern_parser.specs.Patterns.{label_union}
 use Rattle.pattern_parser.specs.Tests.{Tree, is_plain}
-use Rattle.pattern_parser.specs.Queries.{where_part, label_part, filler, part, alias, item_of, gather_of, count_gather, kind_of, leaf_gather, counted, property, is_ungathered, item_rest, after_word, first_member, item_with, item, tree_of, table, query, inside}
+use Rattle.pattern_parser.specs.Queries.{where_part, label_part, filler, part, alias, item_of, gather_of, count_gather, kind_of, leaf_gather, counted, property, is_ungathered}
+use Rattle.pattern_parser.specs.Queries.{item_rest, after_word, first_member, item_with, item, tree_of, table, query, inside}
 use Rattle.pattern_parser.specs.Outcomes.{SpellsQuery}
 use Rattle.graph_ast.specs.QuerySpans.{if_given, of_name, of_names, of_mode, of_label, of_condition, of_union, of_path, of_item, of_tree, EachSpanHas}
-use Rattle.pattern_parser.proofs.Ranges.{In, AllIn, Holds, Both, IfGiven, Given, Gives, Bracketed, any_gives, mapped_gives, seq_gives, either_gives, opt_gives, many_gives, nest_gives}
+use Rattle.pattern_parser.proofs.Ranges.{In, AllIn, Holds, Both, IfGiven, Given, Gives, Bracketed, any_gives, mapped_gives, seq_gives, either_gives, opt_gives, many_gives}
+use Rattle.pattern_parser.proofs.Ranges.{nest_gives}
 use Rattle.pattern_parser.proofs.SpanLists.{wider, all_wider, all_append, Spans, left_all, right_all, given_all, chain_all}
 use Rattle.pattern_parser.proofs.PatternSpans.{the_in, name_in, after_in, inside_all, label_union_in, mode_part_in, of_content}
 use Rattle.pattern_parser.proofs.PathSpans.{of_placed, of_part_content, union_in, path_in}

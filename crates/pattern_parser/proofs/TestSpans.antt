@@ -17,15 +17,19 @@ use Rattle.condition_grammar.specs.Spans.{reach, Tail, unless_none, tested, rang
 use Rattle.condition_grammar.specs.Conditions as g
 use Rattle.condition_grammar.specs.Conditions.{Inside}
 use Rattle.pattern_parser.specs.Insides.{Own, HeldOwn, HeldInside, Production, list, after}
-use Rattle.pattern_parser.specs.Tests.{Tree, OfName, is_plain, put_name, leaf_of, dotted, date_text, own_operand, test_tail, truth_test, with_tail, predicate, not_when, related, end_of_edge, relation, after_name, first_of, group_test, grouped, after_group_word, unnamed_operand, test_from, negation, conjunction, condition, more_members}
+use Rattle.pattern_parser.specs.Tests.{Tree, OfName, is_plain, put_name, leaf_of, dotted, date_text, own_operand, test_tail, truth_test, with_tail, predicate, not_when, related}
+use Rattle.pattern_parser.specs.Tests.{end_of_edge, relation, after_name, first_of, group_test, grouped, after_group_word, unnamed_operand, test_from, negation, conjunction}
+use Rattle.pattern_parser.specs.Tests.{condition, more_members}
 use Rattle.pattern_parser.specs.Queries.{inside}
 use Rattle.pattern_parser.specs.declared.pieces.Counted.{Counted}
 use Rattle.graph_ast.specs.QuerySpans.{if_given, of_name, of_names, of_test, of_label, of_item, of_tree}
-use Rattle.pattern_parser.proofs.Ranges.{In, AllIn, Holds, Both, IfGiven, Chain, Given, Gives, Bracketed, any_gives, one_gives, mapped_gives, seq_gives, either_gives, opt_gives, many_gives, nest_gives}
+use Rattle.pattern_parser.proofs.Ranges.{In, AllIn, Holds, Both, IfGiven, Chain, Given, Gives, Bracketed, any_gives, one_gives, mapped_gives, seq_gives, either_gives, opt_gives}
+use Rattle.pattern_parser.proofs.Ranges.{many_gives, nest_gives}
 use Rattle.pattern_parser.proofs.SpanLists.{wider, reaches, all_wider, Spans}
 use Rattle.pattern_parser.proofs.PatternSpans.{the_in, name_in, after_in, of_content}
 use Rattle.pattern_parser.proofs.PathSpans.{of_part_content}
-use Rattle.pattern_parser.proofs.TreeIn.{TreeIn, tree_wider, literal_in, leaf_in, ListIn, list_wider, consed, chain_list, all_of_in, any_of_in, negated_in, not_if_in, enclosed_in, TailIn, unless_none_in, compared_in, ranged_in, listed_in, tested_in, coalesced_in}
+use Rattle.pattern_parser.proofs.TreeIn.{TreeIn, tree_wider, literal_in, leaf_in, ListIn, list_wider, consed, chain_list, all_of_in, any_of_in, negated_in, not_if_in}
+use Rattle.pattern_parser.proofs.TreeIn.{enclosed_in, TailIn, unless_none_in, compared_in, ranged_in, listed_in, tested_in, coalesced_in}
 
 -- what is made of a name that stands before
 abbrev pub NamesTree : Holds OfName

@@ -10,7 +10,8 @@ use Rattle.expr_tree.specs.declared.tree.Test.{Test}
 use Rattle.expr_tree.specs.Leaves.{joined, leaves_step, leaves_in}
 use Rattle.expr_tree.proofs.Folds.{at_layer}
 use Rattle.graph_ast.specs.declared.query.PropertyRef.{PropertyRef}
-use Rattle.condition_grammar.specs.Spans.{node, reach, without_first, span_of, tree_of, enclosed, last_span, all_of, any_of, not_if, Tail, unless_none, compared, ranged, listed, tested, coalesced, literal}
+use Rattle.condition_grammar.specs.Spans.{node, reach, without_first, span_of, tree_of, enclosed, last_span, all_of, any_of, not_if, Tail, unless_none, compared, ranged, listed}
+use Rattle.condition_grammar.specs.Spans.{tested, coalesced, literal}
 use Rattle.pattern_parser.specs.Tests.{Tree}
 use Rattle.graph_ast.specs.QuerySpans.{of_leaf}
 use Rattle.pattern_parser.proofs.Ranges.{In, AllIn, Holds, IfGiven, Chain, Bracketed}

@@ -19,7 +19,8 @@ use Rattle.pattern_parser.specs.declared.predicates.RelationTail.{RelationTail}
 use Rattle.pattern_parser.specs.declared.predicates.EdgeRole.{EdgeRole}
 use Rattle.pattern_parser.specs.declared.predicates.EdgeRole.TheVariants.{Source, Destination}
 use Rattle.pattern_parser.specs.Insides.{Own, HeldOwn, Production, the, name, word, after}
-use Rattle.pattern_parser.specs.Tests.{Tree, OfName, put_name, leaf_of, own_operand, date_text, test_tail, with_tail, is_group_word, after_name, after_group_word, negation, conjunction, related}
+use Rattle.pattern_parser.specs.Tests.{Tree, OfName, put_name, leaf_of, own_operand, date_text, test_tail, with_tail, is_group_word, after_name, after_group_word, negation}
+use Rattle.pattern_parser.specs.Tests.{conjunction, related}
 
 -- The names below stand for the productions of `condition_grammar` over the leaves and the nests of query texts.
 abbrev pub coalesce : Production Tree

@@ -13,11 +13,5 @@ mod pieces;
 mod predicates;
 mod prefixes;
 mod queries;
-#[cfg(test)]
-mod shown;
-#[cfg(test)]
-mod tests;
-#[cfg(test)]
-mod verdict_tests;
 
 pub use parsing::{one_outcome, one_tree, parse_query, tree_in_text};

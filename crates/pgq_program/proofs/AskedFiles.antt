@@ -1,5 +1,6 @@
 -- The files of a command are files that its words ask for.
-use Rattle.std.proofs.Common.{◌≡◌, refl, sym, ap, ◌∙◌, subst, ℕ, ◌≤◌, ◌⊎◌, inl, inr, Bool, true, false, cond, List, [], ◌∷◌, drop, slice_get, Option, None, Some, option_map, IfSome, IfOk, Result, Ok, Err, codes, bytes_eq, All, arith}
+use Rattle.std.proofs.Common.{◌≡◌, refl, sym, ap, ◌∙◌, subst, ℕ, ◌≤◌, ◌⊎◌, inl, inr, Bool, true, false, cond, List, [], ◌∷◌, drop, slice_get, Option, None, Some, option_map}
+use Rattle.std.proofs.Common.{IfSome, IfOk, Result, Ok, Err, codes, bytes_eq, All, arith}
 use Rattle.std.specs.Cmp.Lexicographic.{bytes_decides}
 use Rattle.pgq_base.specs.Files.{sample_word, IsAsked}
 use Rattle.pgq_base.specs.declared.memory.NoMemory.{NoMemory}
@@ -45,7 +46,8 @@ eval_differs h = cc
 
 -- the files of words TABLE=FILE behind the first three
 abbrev pub FilesAsked : Type 0
-FilesAsked = (words : List (List ℕ)) (asked : List TableWord) → (slice_get words 0 ≡ Some sample_word → ⊥) → table_words (drop 3 words) ≡ Some asked → All (λ table. IsAsked table.file words) asked
+FilesAsked = (words : List (List ℕ)) (asked : List TableWord) → (slice_get words 0 ≡ Some sample_word → ⊥) → table_words (drop 3 words) ≡ Some asked
+    → All (λ table. IsAsked table.file words) asked
 
 abbrev Held : List (List ℕ) → Option Asked → Type 0
 Held words asked = IfSome asked (λ asked. Asks asked words)
@@ -62,8 +64,14 @@ by_one command a false false h = tt
 
 by_two : (command a b : List ℕ) (t c : Bool) → bytes_eq command (codes "translate") ≡ t → bytes_eq command (codes "check") ≡ c
     → Held (command ∷ a ∷ b ∷ []) (cond t (Some (Asked.OfTranslate a b)) (cond c (Some (Asked.OfCheckQuery a b)) None))
-by_two command a b true c h k = (second command a (b ∷ []) (no_sample command (codes "translate") h translate_differs), third command a b [] (no_sample command (codes "translate") h translate_differs))
-by_two command a b false true h k = (second command a (b ∷ []) (no_sample command (codes "check") k check_differs), third command a b [] (no_sample command (codes "check") k check_differs))
+by_two command a b true c h k = (
+  second command a (b ∷ []) (no_sample command (codes "translate") h translate_differs),
+  third command a b [] (no_sample command (codes "translate") h translate_differs),
+)
+by_two command a b false true h k = (
+  second command a (b ∷ []) (no_sample command (codes "check") k check_differs),
+  third command a b [] (no_sample command (codes "check") k check_differs),
+)
 by_two command a b false false h k = tt
 
 by_more : (command a b : List ℕ) (more : List (List ℕ)) → Held (command ∷ a ∷ b ∷ more) (no_more (of_two command a b) more)
@@ -81,11 +89,13 @@ module _ (command a b : List ℕ) (more : List (List ℕ)) (files : FilesAsked) 
       let never : NotSample command = no_sample command word h differ in
       (second command a (b ∷ more) never, third command a b more never, files (command ∷ a ∷ b ∷ more) tables (λ e. never (first_is command sample_word e)) is)
 
-  by_eval : bytes_eq command (codes "eval") ≡ true → (tables : Option (List TableWord)) → table_words more ≡ tables → Held (command ∷ a ∷ b ∷ more) (option_map (λ tables. Asked.OfEval a b tables) tables)
+  by_eval : bytes_eq command (codes "eval") ≡ true → (tables : Option (List TableWord)) → table_words more ≡ tables
+      → Held (command ∷ a ∷ b ∷ more) (option_map (λ tables. Asked.OfEval a b tables) tables)
   by_eval h None is = tt
   by_eval h (Some tables) is = all_asked (codes "eval") h eval_differs tables is
 
-  by_run : bytes_eq command (codes "run") ≡ true → (tables : Option (List TableWord)) → table_words more ≡ tables → Held (command ∷ a ∷ b ∷ more) (option_map (λ tables. Asked.OfRun a b tables) tables)
+  by_run : bytes_eq command (codes "run") ≡ true → (tables : Option (List TableWord)) → table_words more ≡ tables
+      → Held (command ∷ a ∷ b ∷ more) (option_map (λ tables. Asked.OfRun a b tables) tables)
   by_run h None is = tt
   by_run h (Some tables) is = all_asked (codes "run") h run_differs tables is
 

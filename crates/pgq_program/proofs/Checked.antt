@@ -28,7 +28,8 @@ at_rules text tokens tree r a few seen same s shallow e = by r e (subst (λ l. S
     by (Err NoMemory) e s shallow = tt
 
 -- what the text of a file is due is what the file is due
-pub in_file : (name text : List ℕ) (files : Option (List (List ℕ × List ℕ))) (r : Result Catalog Halt) → IfSome files (λ told. StepGives (Only (text_at Schema name told)) (Ok text))
+pub in_file : (name text : List ℕ) (files : Option (List (List ℕ × List ℕ))) (r : Result Catalog Halt)
+    → IfSome files (λ told. StepGives (Only (text_at Schema name told)) (Ok text))
     → (seen : List ℕ) → seen ≡ text → StepGives (Halted (IsRead seen)) r → IfSome files (λ told. StepGives (IsCatalogAt name told) r)
 in_file name text None r e seen same k = tt
 in_file name text (Some told) r e seen same k = by r (subst (λ t. StepGives (Halted (IsRead t)) r) same k)

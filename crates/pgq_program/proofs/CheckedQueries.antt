@@ -34,7 +34,8 @@ module _ (catalog : Catalog) (tree : QueryTree) where
   pub refused : is_served tree ≡ false → IsJudged catalog tree (Err not_served)
   refused e = inl (served_is false e)
 
-pub at_rules : (catalog : Catalog) (text : List ℕ) (tokens : List Token) (tree : QueryTree) (r : Result CheckedQuery (Stop Refusal)) → AreTokens text tokens → length tokens ≤ most_tokens
+pub at_rules : (catalog : Catalog) (text : List ℕ) (tokens : List Token) (tree : QueryTree) (r : Result CheckedQuery (Stop Refusal)) → AreTokens text tokens
+    → length tokens ≤ most_tokens
     → (seen : List Token) → seen ≡ tokens → SpellsQuery seen tree → IsShallow seen → GivesDue (IsJudged catalog tree) r → GivesDue (IsQueryRead catalog text) r
 at_rules catalog text tokens tree r a few seen same s shallow e = by r e (subst (λ l. SpellsQuery l tree) same s) (subst IsShallow same shallow)
   where

@@ -1,5 +1,6 @@
 -- What an evaluation answers is what the rows of a query are due.
-use Rattle.std.proofs.Common.{◌≡◌, refl, sym, ap, subst, ◌∙◌, ℕ, ◌≤◌, ◌<◌, ◌⊎◌, inl, inr, Bool, true, false, nat_le, cond, List, [], ◌∷◌, length, map, Option, None, Some, Result, Ok, Err, arith}
+use Rattle.std.proofs.Common.{◌≡◌, refl, sym, ap, subst, ◌∙◌, ℕ, ◌≤◌, ◌<◌, ◌⊎◌, inl, inr, Bool, true, false, nat_le, cond, List, [], ◌∷◌, length, map, Option, None, Some, Result}
+use Rattle.std.proofs.Common.{Ok, Err, arith}
 use Rattle.std.specs.List.{AllByRecursion, All}
 use Rattle.std.proofs.lemmas.Bool.{leb-true, le-leb}
 use Rattle.pgq_base.specs.declared.rows.Row.{Row}
@@ -30,7 +31,8 @@ meets catalog instance valid fits = record { few = valid.few_tables; tables = fi
 module _ (role : Role) (catalog : Catalog) (query : SqlQuery) (instance : InstanceRows) where
   pub rows_given : (rows : TableRows) → rows ≡ bag catalog query instance → length (bag catalog query instance) ≤ 1000000 → halting (rows_due role catalog query instance) ≡ Ok rows
   rows_given rows is few =
-      ap (λ b. halting (cond b (let r : Result TableRows Refusal = Ok (bag catalog query instance) in r) (Err (too_many role)))) (le-leb (length (bag catalog query instance)) 1000000 few) ∙ ap Ok (sym is)
+      ap (λ b. halting (cond b (let r : Result TableRows Refusal = Ok (bag catalog query instance) in r) (Err (too_many role))))
+      (le-leb (length (bag catalog query instance)) 1000000 few) ∙ ap Ok (sym is)
 
   pub rows_refused : 1000000 < length (bag catalog query instance) → halting (rows_due role catalog query instance) ≡ Err (h.Refused (too_many role))
   rows_refused more = by (nat_le (length (bag catalog query instance)) 1000000) refl

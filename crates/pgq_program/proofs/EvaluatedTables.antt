@@ -28,7 +28,8 @@ use Rattle.pgq_program.specs.Texts.{GivesDue, next}
 pub at_sql : (catalog : Catalog) (text : List ℕ) (tokens : List Token) (r : Result SqlQuery (Stop Refusal)) → AreTokens text tokens → length tokens ≤ most_tokens
     → (seen : List Token) → seen ≡ tokens → (end : ℕ) → end ≡ length text → IfOk r (λ query. IsRead seen catalog (Ok query))
     → IfErr r (λ stop. IfRefused stop (λ refusal. IsFirstFault seen end refusal ⊎ IsRead seen catalog (Err refusal))) → GivesDue (IsSqlRead catalog text) r
-at_sql catalog text tokens (Ok query) a few seen same end is k f = let read = subst (λ l. IsRead l catalog (Ok query)) same k in (tokens, (a, few), (read.text, (read.spelled, read.shallow), read.due_is))
+at_sql catalog text tokens (Ok query) a few seen same end is k f = let read = subst (λ l. IsRead l catalog (Ok query)) same k in
+    (tokens, (a, few), (read.text, (read.spelled, read.shallow), read.due_is))
 at_sql catalog text tokens (Err (Refused refusal)) a few seen same end is k f = by (subst (λ l. IsFirstFault l end refusal ⊎ IsRead l catalog (Err refusal)) same f)
   where
     by : IsFirstFault tokens end refusal ⊎ IsRead tokens catalog (Err refusal) → GivesDue (IsSqlRead catalog text) (Err (Refused refusal))
@@ -69,7 +70,8 @@ module _ (catalog : Catalog) (words : List TableWord) (places : List ℕ) (names
   refused_instance told h.ReadFault k never = tt
   refused_instance told h.NoMemory k never = tt
 
-  pub without_instance : (files : Option (List (List ℕ × List ℕ))) (e : Halt) (r : Result (List ℕ) Halt) → IsErrAnd r (λ x. x ≡ e) → IfSome files (Reads (Err e)) → (e ≡ h.Usage → ⊥) → IfSome files (WritesAt r)
+  pub without_instance : (files : Option (List (List ℕ × List ℕ))) (e : Halt) (r : Result (List ℕ) Halt) → IsErrAnd r (λ x. x ≡ e) → IfSome files (Reads (Err e))
+      → (e ≡ h.Usage → ⊥) → IfSome files (WritesAt r)
   without_instance None e r is k never = tt
   without_instance (Some told) e (Ok text) is k never = absurd is
   without_instance (Some told) e (Err x) is k never = let P : Halt → Type 0 = λ x. WritesAt (Err x) told in subst P (sym is) (refused_instance told e k never)

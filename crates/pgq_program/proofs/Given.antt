@@ -21,14 +21,16 @@ usage_not_refused : (t : AnyRefusal) → (let e : Result Outcome Halt = Err h.Us
 usage_not_refused t e = cc
 
 module _ (due : Result Outcome Halt → Type 0) (one : IsSingle due) (before now : ℕ) (quiet : Rose before now → ⊥) where
-  pub written : (said : Answer) → IsDue due said → AnswerCause before now said → (outcome : Outcome) → due (Ok outcome) → ((status_of said ≡ Done) × IsTextOf outcome (out_text said)) ⊎ (status_of said ≡ NoMemory)
+  pub written : (said : Answer) → IsDue due said → AnswerCause before now said → (outcome : Outcome) → due (Ok outcome)
+      → ((status_of said ≡ Done) × IsTextOf outcome (out_text said)) ⊎ (status_of said ≡ NoMemory)
   written (a.Done text) (o, d, t) cause outcome e = inl (refl, subst (λ o. IsTextOf o text) (ok_inside o outcome (one (Ok o) (Ok outcome) d e)) t)
   written (a.Refused line) (r, d, l) cause outcome e = absurd (ok_not_err outcome (h.Refused r) (one (Ok outcome) (Err (h.Refused r)) e d))
   written a.Usage d cause outcome e = absurd (ok_not_err outcome h.Usage (one (Ok outcome) (Err h.Usage) e d))
   written a.ReadFault d cause outcome e = absurd (quiet (cause.read refl))
   written a.NoMemory d cause outcome e = inr refl
 
-  pub told : (said : Answer) → IsDue due said → AnswerCause before now said → (refusal : AnyRefusal) → due (Err (h.Refused refusal)) → ((status_of said ≡ Refused) × (err_text said ≡ refusal_line refusal)) ⊎ (status_of said ≡ NoMemory)
+  pub told : (said : Answer) → IsDue due said → AnswerCause before now said → (refusal : AnyRefusal) → due (Err (h.Refused refusal))
+      → ((status_of said ≡ Refused) × (err_text said ≡ refusal_line refusal)) ⊎ (status_of said ≡ NoMemory)
   told (a.Done text) (o, d, t) cause refusal e = absurd (ok_not_err o (h.Refused refusal) (one (Ok o) (Err (h.Refused refusal)) d e))
   told (a.Refused line) (r, d, l) cause refusal e = inl (refl, l ∙ ap refusal_line (same_refusal r refusal (one (Err (h.Refused r)) (Err (h.Refused refusal)) d e)))
   told a.Usage d cause refusal e = absurd (usage_not_refused refusal (one (Err h.Usage) (Err (h.Refused refusal)) d e))
@@ -56,12 +58,14 @@ owed_if asked (Some told) said d e = owed (Owes asked told) said d e
 
 module _ (asked : Option Asked) (before now : ℕ) (said : Answer) (cause : AnswerCause before now said) where
   pub written_if : (files : Option (List (List ℕ × List ℕ))) → IfSome files (λ told. IsDue (Owes asked told) said)
-      → IfSome files (λ told. (outcome : Outcome) → Owes asked told (Ok outcome) → (Rose before now → ⊥) → ((status_of said ≡ Done) × IsTextOf outcome (out_text said)) ⊎ (status_of said ≡ NoMemory))
+      → IfSome files (λ told. (outcome : Outcome) → Owes asked told (Ok outcome) → (Rose before now → ⊥) → ((status_of said ≡ Done) × IsTextOf outcome (out_text said)) ⊎
+      (status_of said ≡ NoMemory))
   written_if None h = tt
   written_if (Some told) h = λ outcome e quiet. written (Owes asked told) (single_owes asked told) before now quiet said h cause outcome e
 
   pub told_if : (files : Option (List (List ℕ × List ℕ))) → IfSome files (λ told. IsDue (Owes asked told) said)
-      → IfSome files (λ told. (refusal : AnyRefusal) → Owes asked told (Err (h.Refused refusal)) → (Rose before now → ⊥) → ((status_of said ≡ Refused) × (err_text said ≡ refusal_line refusal)) ⊎ (status_of said ≡ NoMemory))
+      → IfSome files (λ told. (refusal : AnyRefusal) → Owes asked told (Err (h.Refused refusal)) → (Rose before now → ⊥)
+      → ((status_of said ≡ Refused) × (err_text said ≡ refusal_line refusal)) ⊎ (status_of said ≡ NoMemory))
   told_if None h = tt
   told_if (Some files) h = λ refusal e quiet. told (Owes asked files) (single_owes asked files) before now quiet said h cause refusal e
 

@@ -13,9 +13,11 @@ pub mod PlacedSqls
 pub mod PlacedTables
 pub mod PlacedTexts
 pub mod RowWidths
+pub mod RunsOfTexts
 pub mod TextsDue
 pub mod TranslatableQueries
 pub mod Translated
 pub mod SameRows
 pub mod SampleCounts
+pub mod SampleDue
 pub mod SampledRuns

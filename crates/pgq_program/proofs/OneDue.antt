@@ -34,7 +34,8 @@ use Rattle.sample_run.specs.SampleRun.{sample_query, sample_rows}
 use Rattle.pgq_program.specs.Halts.{halting, places_or}
 use Rattle.pgq_program.specs.Running.{answer_due, summary_of}
 use Rattle.pgq_program.specs.Schemas.{IsLexed, IsChecked, IsRead}
-use Rattle.pgq_program.specs.Steps.{Halted, IsCatalogAt, IsQueryAt, IsCheckedAt, IsTranslationIn, IsTranslationOf, IsSqlAt, rows_at, IsTableAt, IsTableOf, answer_at, IsAnswerAt, IsAnswerOf, IsSampled, Owes, text_at}
+use Rattle.pgq_program.specs.Steps.{Halted, IsCatalogAt, IsQueryAt, IsCheckedAt, IsTranslationIn, IsTranslationOf, IsSqlAt, rows_at, IsTableAt, IsTableOf, answer_at, IsAnswerAt}
+use Rattle.pgq_program.specs.Steps.{IsAnswerOf, IsSampled, Owes, text_at}
 use Rattle.pgq_program.specs.Texts.{sized, IsSchemaDue, IsQueryDue, IsPairDue, IsTextsDue}
 
 abbrev pub IsSingle : {A E : Type 0} → (Result A E → Type 0) → Type 0
@@ -89,7 +90,7 @@ single_read text = single_then (IsLexed Schema text) (λ tokens. Then (IsOutcome
 single_judged : (catalog : Catalog) (tree : QueryTree) → IsSingle (IsJudged catalog tree)
 single_judged catalog tree = single_then (Only (served tree)) (λ tree. Only (rules.due catalog tree)) (single_only (served tree)) (λ tree. single_only (rules.due catalog tree))
 
-single_query : (catalog : Catalog) (text : List ℕ) → IsSingle (IsQueryRead catalog text)
+pub single_query : (catalog : Catalog) (text : List ℕ) → IsSingle (IsQueryRead catalog text)
 single_query catalog text = single_then (IsLexed Query text) (λ tokens. Then (query.IsOutcome tokens (length text)) (IsJudged catalog)) (single_lexed Query text)
     (λ tokens. single_then (query.IsOutcome tokens (length text)) (IsJudged catalog) (query_text.one_outcome tokens (length text)) (single_judged catalog))
 
@@ -110,7 +111,8 @@ single_halted due one (Err h.NoMemory) y p q = absurd p
 
 single_catalog_at : (schema : List ℕ) (files : List (List ℕ × List ℕ)) → IsSingle (IsCatalogAt schema files)
 single_catalog_at schema files =
-    single_then (Only (text_at Schema schema files)) (λ text. Halted (IsRead text)) (single_only (text_at Schema schema files)) (λ text. single_halted (IsRead text) (single_read text))
+    single_then (Only (text_at Schema schema files)) (λ text. Halted (IsRead text)) (single_only (text_at Schema schema files))
+    (λ text. single_halted (IsRead text) (single_read text))
 
 single_query_at : (catalog : Catalog) (name : List ℕ) (files : List (List ℕ × List ℕ)) → IsSingle (IsQueryAt catalog name files)
 single_query_at catalog name files =
@@ -129,7 +131,8 @@ single_translation schema name files =
 
 single_sql : (catalog : Catalog) (text : List ℕ) → IsSingle (IsSqlRead catalog text)
 single_sql catalog text = single_then (IsLexed Sql text) (λ tokens. Then (sql.IsOutcome tokens (length text)) (λ tree. Only (sql_rules.due catalog tree))) (single_lexed Sql text)
-    (λ tokens. single_then (sql.IsOutcome tokens (length text)) (λ tree. Only (sql_rules.due catalog tree)) (sql_text.one_outcome tokens (length text)) (λ tree. single_only (sql_rules.due catalog tree)))
+    (λ tokens. single_then (sql.IsOutcome tokens (length text)) (λ tree. Only (sql_rules.due catalog tree)) (sql_text.one_outcome tokens (length text))
+    (λ tree. single_only (sql_rules.due catalog tree)))
 
 single_sql_at : (catalog : Catalog) (name : List ℕ) (files : List (List ℕ × List ℕ)) → IsSingle (IsSqlAt catalog name files)
 single_sql_at catalog name files =
@@ -138,31 +141,40 @@ single_sql_at catalog name files =
 
 single_table_at : (catalog : Catalog) (words : List TableWord) (places sql : List ℕ) (files : List (List ℕ × List ℕ)) → IsSingle (IsTableAt catalog words places sql files)
 single_table_at catalog words places sql files =
-    single_then (IsSqlAt catalog sql files) (λ query. Then (Only (rows_at catalog query words places files)) (λ rows. Only (Ok (Outcome.Table (names_of query) rows)))) (single_sql_at catalog sql files)
-    (λ query. single_then (Only (rows_at catalog query words places files)) (λ rows. Only (Ok (Outcome.Table (names_of query) rows))) (single_only (rows_at catalog query words places files))
+    single_then (IsSqlAt catalog sql files) (λ query. Then (Only (rows_at catalog query words places files)) (λ rows. Only (Ok (Outcome.Table (names_of query) rows))))
+    (single_sql_at catalog sql files)
+    (λ query. single_then (Only (rows_at catalog query words places files)) (λ rows. Only (Ok (Outcome.Table (names_of query) rows)))
+    (single_only (rows_at catalog query words places files))
     (λ rows. single_only (Ok (Outcome.Table (names_of query) rows))))
 
 single_table_of : (schema sql : List ℕ) (words : List TableWord) (files : List (List ℕ × List ℕ)) → IsSingle (IsTableOf schema sql words files)
 single_table_of schema sql words files =
-    single_then (IsCatalogAt schema files) (λ catalog. Then (Only (places_or (table_places catalog words))) (λ places. IsTableAt catalog words places sql files)) (single_catalog_at schema files)
-    (λ catalog. single_then (Only (places_or (table_places catalog words))) (λ places. IsTableAt catalog words places sql files) (single_only (places_or (table_places catalog words)))
+    single_then (IsCatalogAt schema files) (λ catalog. Then (Only (places_or (table_places catalog words))) (λ places. IsTableAt catalog words places sql files))
+    (single_catalog_at schema files)
+    (λ catalog. single_then (Only (places_or (table_places catalog words))) (λ places. IsTableAt catalog words places sql files)
+    (single_only (places_or (table_places catalog words)))
     (λ places. single_table_at catalog words places sql files))
 
 single_answer_at : (catalog : Catalog) (words : List TableWord) (places name : List ℕ) (files : List (List ℕ × List ℕ)) → IsSingle (IsAnswerAt catalog words places name files)
 single_answer_at catalog words places name files =
-    single_then (IsQueryAt catalog name files) (λ query. Then (Only (answer_at catalog query words places files)) (λ rows. Only (Ok (Outcome.Table (names query) rows)))) (single_query_at catalog name files)
-    (λ query. single_then (Only (answer_at catalog query words places files)) (λ rows. Only (Ok (Outcome.Table (names query) rows))) (single_only (answer_at catalog query words places files))
+    single_then (IsQueryAt catalog name files) (λ query. Then (Only (answer_at catalog query words places files)) (λ rows. Only (Ok (Outcome.Table (names query) rows))))
+    (single_query_at catalog name files)
+    (λ query. single_then (Only (answer_at catalog query words places files)) (λ rows. Only (Ok (Outcome.Table (names query) rows)))
+    (single_only (answer_at catalog query words places files))
     (λ rows. single_only (Ok (Outcome.Table (names query) rows))))
 
 single_answer_of : (schema name : List ℕ) (words : List TableWord) (files : List (List ℕ × List ℕ)) → IsSingle (IsAnswerOf schema name words files)
 single_answer_of schema name words files =
-    single_then (IsCatalogAt schema files) (λ catalog. Then (Only (places_or (table_places catalog words))) (λ places. IsAnswerAt catalog words places name files)) (single_catalog_at schema files)
-    (λ catalog. single_then (Only (places_or (table_places catalog words))) (λ places. IsAnswerAt catalog words places name files) (single_only (places_or (table_places catalog words)))
+    single_then (IsCatalogAt schema files) (λ catalog. Then (Only (places_or (table_places catalog words))) (λ places. IsAnswerAt catalog words places name files))
+    (single_catalog_at schema files)
+    (λ catalog. single_then (Only (places_or (table_places catalog words))) (λ places. IsAnswerAt catalog words places name files)
+    (single_only (places_or (table_places catalog words)))
     (λ places. single_answer_at catalog words places name files))
 
 single_sampled : (n : ℕ) → IsSingle (IsSampled n)
 single_sampled n =
-    single_then (Halted (IsQueryRead sample_catalog sample_query)) (λ query. Then (Only (halting (answer_due sample_catalog query (sample_rows n)))) (λ rows. Only (Ok (summary_of n rows))))
+    single_then (Halted (IsQueryRead sample_catalog sample_query)) (λ query. Then (Only (halting (answer_due sample_catalog query (sample_rows n))))
+    (λ rows. Only (Ok (summary_of n rows))))
     (single_halted (IsQueryRead sample_catalog sample_query) (single_query sample_catalog sample_query))
     (λ query. single_then (Only (halting (answer_due sample_catalog query (sample_rows n)))) (λ rows. Only (Ok (summary_of n rows)))
     (single_only (halting (answer_due sample_catalog query (sample_rows n)))) (λ rows. single_only (Ok (summary_of n rows))))
@@ -182,7 +194,7 @@ single_owes (Some (Asked.OfEval schema sql words)) files = single_table_of schem
 
 -- ---- two texts
 
-single_schema_due : (schema : List ℕ) → IsSingle (IsSchemaDue schema)
+pub single_schema_due : (schema : List ℕ) → IsSingle (IsSchemaDue schema)
 single_schema_due schema = single_then (Only (sized Schema schema)) IsRead (single_only (sized Schema schema)) single_read
 
 single_query_due : (catalog : Catalog) (query : List ℕ) → IsSingle (IsQueryDue catalog query)

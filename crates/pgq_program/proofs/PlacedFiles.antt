@@ -65,9 +65,11 @@ in_query schema query sql r (text, held, placed) = subst (λ o. NamesPart (of_ro
 in_sql : (schema query sql : Option (List ℕ)) (r : Refusal) → OfText (λ text. IsPlaced Sql (length text) r) sql → NamesPart (of_role schema query sql) r
 in_sql schema query sql r (text, held, placed) = subst (λ o. NamesPart (of_role schema query o) r) (sym held) (sql_part schema query text r placed)
 
-by_check : (schema query : List ℕ) (files : List (List ℕ × List ℕ)) (r : Refusal) → IsCheckedAt schema query files (Err (h.Refused r)) → NamesPart (of_role (content_of schema files) (content_of query files) None) r
+by_check : (schema query : List ℕ) (files : List (List ℕ × List ℕ)) (r : Refusal) → IsCheckedAt schema query files (Err (h.Refused r))
+    → NamesPart (of_role (content_of schema files) (content_of query files) None) r
 by_check schema query files r (inl fault) = in_schema (content_of schema files) (content_of query files) None r (refused_catalog files schema r fault)
-by_check schema query files r (inr (catalog, e, inl fault)) = in_query (content_of schema files) (content_of query files) None r (refused_text Query r (content_of query files) fault)
+by_check schema query files r (inr (catalog, e, inl fault)) = in_query (content_of schema files) (content_of query files) None r
+    (refused_text Query r (content_of query files) fault)
 by_check schema query files r (inr (catalog, e, inr (text, held, fault))) =
     in_query (content_of schema files) (content_of query files) None r (text, read_text Query text (content_of query files) held, query_read catalog text r fault)
 
@@ -82,10 +84,12 @@ by_eval_rows : (schema sql text : List ℕ) (files : List (List ℕ × List ℕ)
 by_eval_rows schema sql text files r held (inl same) = in_sql (content_of schema files) None (content_of sql files) r (text, held, too_many_lies Sql (length text) r same)
 by_eval_rows schema sql text files r held (inr placed) = table_part (content_of schema files) None (content_of sql files) r placed
 
-by_eval : (schema sql : List ℕ) (words : List TableWord) (files : List (List ℕ × List ℕ)) (r : Refusal) → IsTableOf schema sql words files (Err (h.Refused r)) → NamesPart (of_role (content_of schema files) None (content_of sql files)) r
+by_eval : (schema sql : List ℕ) (words : List TableWord) (files : List (List ℕ × List ℕ)) (r : Refusal) → IsTableOf schema sql words files (Err (h.Refused r))
+    → NamesPart (of_role (content_of schema files) None (content_of sql files)) r
 by_eval schema sql words files r (inl fault) = in_schema (content_of schema files) None (content_of sql files) r (refused_catalog files schema r fault)
 by_eval schema sql words files r (inr (catalog, e, inl fault)) = absurd (places_not_refused (table_places catalog words) r fault)
-by_eval schema sql words files r (inr (catalog, e, inr (places, is, inl (inl fault)))) = in_sql (content_of schema files) None (content_of sql files) r (refused_text Sql r (content_of sql files) fault)
+by_eval schema sql words files r (inr (catalog, e, inr (places, is, inl (inl fault)))) = in_sql (content_of schema files) None (content_of sql files) r
+    (refused_text Sql r (content_of sql files) fault)
 by_eval schema sql words files r (inr (catalog, e, inr (places, is, inl (inr (text, held, fault))))) =
     in_sql (content_of schema files) None (content_of sql files) r (text, read_text Sql text (content_of sql files) held, sql_read catalog text r fault)
 by_eval schema sql words files r (inr (catalog, e, inr (places, is, inr (query, (text, held, read), inl fault)))) =
@@ -128,7 +132,8 @@ placed (Some (Asked.OfEval schema sql words)) files r fault = by_eval schema sql
 
 -- ---- what there is to say
 
-said_line : (asked : Option Asked) (files : List (List ℕ × List ℕ)) (said : Answer) → IsDue (Owes asked files) said → status_of said ≡ Refused → IsLineDue asked files (err_text said)
+said_line : (asked : Option Asked) (files : List (List ℕ × List ℕ)) (said : Answer) → IsDue (Owes asked files) said → status_of said ≡ Refused
+    → IsLineDue asked files (err_text said)
 said_line asked files (a.Done text) d e = absurd cc
 said_line asked files (a.Refused line) (r, d, l) e = record { refusal = r; due = d; is_line = l; in_text = placed asked files r d }
 said_line asked files a.Usage d e = absurd cc

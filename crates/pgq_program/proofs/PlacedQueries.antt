@@ -57,7 +57,8 @@ module _ (catalog : Catalog) (text : List ℕ) where
       ruled_by (length text) (first_fault catalog tree) (checked catalog tree) r
       (fault_lies (length text) catalog tree (spans_lie (length text) tokens tree (tokens_ordered text tokens are) spelled)) e
 
-  judged_lies : (tokens : List Token) (tree : QueryTree) (r : Refusal) → AreTokens text tokens → SpellsQuery tokens tree → IsJudged catalog tree (Err r) → IsPlaced Query (length text) r
+  judged_lies : (tokens : List Token) (tree : QueryTree) (r : Refusal) → AreTokens text tokens → SpellsQuery tokens tree → IsJudged catalog tree (Err r)
+      → IsPlaced Query (length text) r
   unfolding Served
   judged_lies tokens tree r are spelled (inl e) = not_served_lies (length text) tree r (is_served tree) e
   judged_lies tokens tree r are spelled (inr (other, e, fault)) =

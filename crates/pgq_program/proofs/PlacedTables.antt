@@ -1,5 +1,6 @@
 -- A refusal of the tables of a command has no place in a text.
-use Rattle.std.proofs.Common.{suc, ◌≡◌, refl, sym, ap, subst, ◌∙◌, ℕ, ◌+◌, List, [], ◌∷◌, length, Bool, true, false, nat_le, cond, ◌⊎◌, inl, inr, Option, None, Some, Result, Ok, Err}
+use Rattle.std.proofs.Common.{suc, ◌≡◌, refl, sym, ap, subst, ◌∙◌, ℕ, ◌+◌, List, [], ◌∷◌, length, Bool, true, false, nat_le, cond, ◌⊎◌, inl, inr, Option, None, Some, Result, Ok}
+use Rattle.std.proofs.Common.{Err}
 use Rattle.pgq_base.specs.Files.{content_of}
 use Rattle.pgq_base.specs.Instances.{TableRows, InstanceRows}
 use Rattle.pgq_base.specs.declared.code.Code.TheVariants.{DataTooLarge}
@@ -49,10 +50,11 @@ of_added : (read : RowsRead) (place count : ℕ) (rows : Result TableRows Refusa
 of_added read place count (Ok rows) r e = absurd cc
 of_added read place count (Err refusal) r e = cc
 
-too_large_is : (catalog : Catalog) (place : ℕ) (r : Refusal) → (let x : Result RowsRead Refusal = Err (too_large (table_at catalog place).name) in x) ≡ Err r → too_large (table_at catalog place).name ≡ r
+too_large_is : (catalog : Catalog) (place : ℕ) (r : Refusal) → (let x : Result RowsRead Refusal = Err (too_large (table_at catalog place).name) in x) ≡ Err r
+    → too_large (table_at catalog place).name ≡ r
 too_large_is catalog place r e = cc
 
-of_file : (catalog : Catalog) (read : RowsRead) (place : ℕ) (bytes : List ℕ) (r : Refusal) → file_read catalog read place bytes ≡ Err r → IsTablePlaced r
+pub of_file : (catalog : Catalog) (read : RowsRead) (place : ℕ) (bytes : List ℕ) (r : Refusal) → file_read catalog read place bytes ≡ Err r → IsTablePlaced r
 of_file catalog read place bytes r e = by (nat_le (read.bytes + length bytes) most_bytes) e
   where
     by : (b : Bool) → cond b (added read place (length bytes) (table_rows bytes (table_at catalog place))) (Err (too_large (table_at catalog place).name)) ≡ Err r → IsTablePlaced r
@@ -70,11 +72,12 @@ of_held catalog read place None r e = absurd cc
 of_held catalog read place (Some bytes) r e = of_file catalog read place bytes r (stopped (file_read catalog read place bytes) r e)
 
 -- a step behind another one
-behind : {A B E : Type 0} (first : Result A E) (step : A → Result B E) (e : E) → and_then first step ≡ Err e → (first ≡ Err e) ⊎ ((x : A) × (step x ≡ Err e))
+pub behind : {A B E : Type 0} (first : Result A E) (step : A → Result B E) (e : E) → and_then first step ≡ Err e → (first ≡ Err e) ⊎ ((x : A) × (step x ≡ Err e))
 behind (Ok x) step e is = inr (x, is)
 behind (Err f) step e is = inl cc
 
-of_files : (catalog : Catalog) (files : List (List ℕ × List ℕ)) (read : RowsRead) (words : List TableWord) (places : List ℕ) (r : Refusal) → files_at catalog files read words places ≡ Err (t.Refused r)
+of_files : (catalog : Catalog) (files : List (List ℕ × List ℕ)) (read : RowsRead) (words : List TableWord) (places : List ℕ) (r : Refusal)
+    → files_at catalog files read words places ≡ Err (t.Refused r)
     → IsTablePlaced r
 of_files catalog files read [] places r e = absurd cc
 of_files catalog files read (word ∷ words) [] r e = absurd cc
@@ -88,7 +91,8 @@ of_files catalog files read (word ∷ words) (place ∷ places) r e =
 
 -- ---- the keys and references
 
-of_table_or : (table : Table) (fault : Option TableFault) (rest : Option Refusal) (r : Refusal) → table_or table fault rest ≡ Some r → (rest ≡ Some r → IsTablePlaced r) → IsTablePlaced r
+of_table_or : (table : Table) (fault : Option TableFault) (rest : Option Refusal) (r : Refusal) → table_or table fault rest ≡ Some r → (rest ≡ Some r → IsTablePlaced r)
+    → IsTablePlaced r
 of_table_or table None rest r e later = later e
 of_table_or table (Some fault) rest r e later = of_fault table.name fault r cc
 
@@ -100,13 +104,16 @@ of_unless : {A : Type 0} (o : Option Refusal) (x : A) (r : Refusal) → unless o
 of_unless None x r e = absurd cc
 of_unless (Some refusal) x r e = cc
 
-of_checked : (catalog : Catalog) (instance : InstanceRows) (r : Refusal) → instance_checked catalog instance ≡ Err r → IsTablePlaced r
+pub of_checked : (catalog : Catalog) (instance : InstanceRows) (r : Refusal) → instance_checked catalog instance ≡ Err r → IsTablePlaced r
 of_checked catalog instance r e = of_tables instance _ catalog.tables r (of_unless (instance_refusal catalog instance) instance r e)
 
-of_instance : (catalog : Catalog) (files : List (List ℕ × List ℕ)) (words : List TableWord) (places : List ℕ) (r : Refusal) → instance_at catalog files words places ≡ Err (t.Refused r) → IsTablePlaced r
-of_instance catalog files words places r e = by (behind (files_at catalog files (none_read catalog) words places) (λ read. stopping (instance_checked catalog read.tables)) (t.Refused r) e)
+of_instance : (catalog : Catalog) (files : List (List ℕ × List ℕ)) (words : List TableWord) (places : List ℕ) (r : Refusal) → instance_at catalog files words places
+    ≡ Err (t.Refused r) → IsTablePlaced r
+of_instance catalog files words places r e = by (behind (files_at catalog files (none_read catalog) words places) (λ read. stopping (instance_checked catalog read.tables))
+    (t.Refused r) e)
   where
-    by : (files_at catalog files (none_read catalog) words places ≡ Err (t.Refused r)) ⊎ ((read : RowsRead) × (stopping (instance_checked catalog read.tables) ≡ Err (t.Refused r))) → IsTablePlaced r
+    by : (files_at catalog files (none_read catalog) words places ≡ Err (t.Refused r)) ⊎
+        ((read : RowsRead) × (stopping (instance_checked catalog read.tables) ≡ Err (t.Refused r))) → IsTablePlaced r
     by (inl e) = of_files catalog files (none_read catalog) words places r e
     by (inr (read, e)) = of_checked catalog read.tables r (stopped (instance_checked catalog read.tables) r e)
 
@@ -118,7 +125,7 @@ halted_by (Err (t.Refused refusal)) r e = cc
 halted_by (Err t.ReadFault) r e = absurd cc
 halted_by (Err t.NoMemory) r e = absurd cc
 
-halted : {A : Type 0} (due : Result A Refusal) (r : Refusal) → halting due ≡ Err (h.Refused r) → due ≡ Err r
+pub halted : {A : Type 0} (due : Result A Refusal) (r : Refusal) → halting due ≡ Err (h.Refused r) → due ≡ Err r
 halted (Ok x) r e = absurd cc
 halted (Err refusal) r e = cc
 
@@ -132,7 +139,8 @@ many_refused role rows r e = too_many_is role rows r (nat_le (length rows) 10000
 
 -- rows over the instance of some files
 pub rows_placed : (role : Role) (rows : InstanceRows → TableRows) (catalog : Catalog) (words : List TableWord) (places : List ℕ) (files : List (List ℕ × List ℕ)) (r : Refusal)
-    → next (tables_halting (instance_at catalog files words places)) (λ instance. halting (few_rows role (rows instance))) ≡ Err (h.Refused r) → (too_many role ≡ r) ⊎ IsTablePlaced r
+    → next (tables_halting (instance_at catalog files words places)) (λ instance. halting (few_rows role (rows instance))) ≡ Err (h.Refused r)
+    → (too_many role ≡ r) ⊎ IsTablePlaced r
 rows_placed role rows catalog words places files r e = by (refused_next (tables_halting (instance_at catalog files words places)) _ (h.Refused r) e)
   where
     by : ((tables_halting (instance_at catalog files words places) ≡ Err (h.Refused r))

@@ -27,7 +27,8 @@ module _ (role : Role) (text : List ℕ) where
   pub too_large : (r : Refusal) → sized role text ≡ Err r → IsPlaced role (length text) r
   too_large r e = by (nat_le (length text) 1048576) e
     where
-      by : (b : Bool) → cond b (let t : Result (List ℕ) Refusal = Ok text in t) (Err (refusal role TextTooLarge (record { from = 0; to = 0 }))) ≡ Err r → IsPlaced role (length text) r
+      by : (b : Bool) → cond b (let t : Result (List ℕ) Refusal = Ok text in t) (Err (refusal role TextTooLarge (record { from = 0; to = 0 }))) ≡ Err r
+          → IsPlaced role (length text) r
       by true e = absurd cc
       by false e = let same : refusal role TextTooLarge (record { from = 0; to = 0 }) ≡ r = cc in subst (IsPlaced role (length text)) same (refl, (omega arith, omega arith))
 
@@ -49,20 +50,22 @@ query_part schema sql query r placed = subst (λ role. IsPart (of_role schema (S
 pub sql_part : (schema query : Option (List ℕ)) (sql : List ℕ) (r : Refusal) → IsPlaced Sql (length sql) r → NamesPart (of_role schema query (Some sql)) r
 sql_part schema query sql r placed = subst (λ role. IsPart (of_role schema query (Some sql) role) r.span) (sym placed.0) placed.1
 
-refused_schema : (schema : List ℕ) (r : Refusal) → IsSchemaDue schema (Err r) → IsPlaced Schema (length schema) r
+pub refused_schema : (schema : List ℕ) (r : Refusal) → IsSchemaDue schema (Err r) → IsPlaced Schema (length schema) r
 refused_schema schema r (inl e) = too_large Schema schema r e
 refused_schema schema r (inr (text, is, fault)) = subst (λ (t : List ℕ). IsPlaced Schema (length t) r) (sym (within_size Schema schema text is)) (read text r fault)
 
-refused_query : (catalog : Catalog) (query : List ℕ) (r : Refusal) → IsQueryDue catalog query (Err r) → IsPlaced Query (length query) r
+pub refused_query : (catalog : Catalog) (query : List ℕ) (r : Refusal) → IsQueryDue catalog query (Err r) → IsPlaced Query (length query) r
 refused_query catalog query r (inl e) = too_large Query query r e
-refused_query catalog query r (inr (text, is, fault)) = subst (λ (t : List ℕ). IsPlaced Query (length t) r) (sym (within_size Query query text is)) (query_read catalog text r fault)
+refused_query catalog query r (inr (text, is, fault)) = subst (λ (t : List ℕ). IsPlaced Query (length t) r) (sym (within_size Query query text is))
+    (query_read catalog text r fault)
 
 refused_texts : (schema query : List ℕ) (r : Refusal) → IsTextsDue schema query (Err r) → NamesPart (of_role (Some schema) (Some query) None) r
 refused_texts schema query r (inl fault) = schema_part schema (Some query) None r (refused_schema schema r fault)
 refused_texts schema query r (inr (catalog, e, inl fault)) = query_part (Some schema) None query r (refused_query catalog query r fault)
 refused_texts schema query r (inr (catalog, e, inr (checked, k, other))) = absurd cc
 
-pub stopped_texts : (schema query : List ℕ) (r : Result (List ℕ) (Stop Refusal)) → IfErr r (λ stop. IsStopOf (IsTextsDue schema query) stop) → IfErr r (λ stop. StopNamesPart (of_role (Some schema) (Some query) None) stop)
+pub stopped_texts : (schema query : List ℕ) (r : Result (List ℕ) (Stop Refusal)) → IfErr r (λ stop. IsStopOf (IsTextsDue schema query) stop)
+    → IfErr r (λ stop. StopNamesPart (of_role (Some schema) (Some query) None) stop)
 stopped_texts schema query (Ok text) h = tt
 stopped_texts schema query (Err (s.Refused refused)) h = refused_texts schema query refused h
 stopped_texts schema query (Err s.NoMemory) h = tt

@@ -43,16 +43,25 @@ module _ (catalog : Catalog) (instance : InstanceRows) where
   select_width select =
       subst (λ (f : Tuple → TableRows). HaveWidth (length select.columns) (f [])) (sym (select_means catalog instance select)) (mapped_width catalog select.columns _)
 
-  selects_width : (n : ℕ) (first : Select) → length first.columns ≡ n → (selects : List Select) → list_all (λ select. same_classes (classes_of first.columns) (classes_of select.columns)) selects ≡ true
+  selects_width : (n : ℕ) (first : Select) → length first.columns ≡ n → (selects : List Select)
+      → list_all (λ select. same_classes (classes_of first.columns) (classes_of select.columns)) selects ≡ true
       → HaveWidth n (flat_map (λ select. select_rows catalog instance select []) selects)
   selects_width n first is [] h = tt
   selects_width n first is (select ∷ selects) h =
-      let parts = both (same_classes (classes_of first.columns) (classes_of select.columns)) (list_all (λ select. same_classes (classes_of first.columns) (classes_of select.columns)) selects) h in
-      let same : length select.columns ≡ n = omega (arith, is, same_length (classes_of first.columns) (classes_of select.columns) parts.0, length-map first.columns class_at, length-map select.columns class_at) in
+      let parts = both (same_classes (classes_of first.columns) (classes_of select.columns))
+      (list_all (λ select. same_classes (classes_of first.columns) (classes_of select.columns)) selects) h in
+      let same : length select.columns ≡ n = omega (
+        arith,
+        is,
+        same_length (classes_of first.columns) (classes_of select.columns) parts.0,
+        length-map first.columns class_at,
+        length-map select.columns class_at,
+      ) in
       joined_width n (select_rows catalog instance select []) (flat_map (λ select. select_rows catalog instance select []) selects)
       (subst (λ m. HaveWidth m (select_rows catalog instance select [])) same (select_width select)) (selects_width n first is selects parts.1)
 
-  of_selects : (selects : List Select) → selects_agree selects ≡ true → HaveWidth (length (names_of (record { selects = selects }))) (bag catalog (record { selects = selects }) instance)
+  of_selects : (selects : List Select) → selects_agree selects ≡ true → HaveWidth (length (names_of (record { selects = selects })))
+      (bag catalog (record { selects = selects }) instance)
   of_selects [] h = tt
   of_selects (select ∷ selects) h =
       let n = length (map (λ (column : SelectColumn). column.name) select.columns) in

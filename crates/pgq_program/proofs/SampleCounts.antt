@@ -1,5 +1,6 @@
 -- The number of persons that a word asks for is the one whose decimal it is.
-use Rattle.std.proofs.Common.{suc, zero, ◌≡◌, refl, sym, ap, ◌∙◌, subst, ℕ, ◌+◌, ◌≤◌, ◌<◌, ◌⊎◌, inl, inr, Bool, true, false, cond, List, [], ◌∷◌, Option, None, Some, IfSome, Result, Ok, Err, bytes_eq, arith}
+use Rattle.std.proofs.Common.{suc, zero, ◌≡◌, refl, sym, ap, ◌∙◌, subst, ℕ, ◌+◌, ◌≤◌, ◌<◌, ◌⊎◌, inl, inr, Bool, true, false, cond, List, [], ◌∷◌, Option, None, Some, IfSome}
+use Rattle.std.proofs.Common.{Result, Ok, Err, bytes_eq, arith}
 use Rattle.std.specs.Prelude.{find, decimal, ◌^◌}
 use Rattle.std.specs.List.{range_with_len}
 use Rattle.std.specs.Cmp.Lexicographic.{bytes_decides}
@@ -64,7 +65,8 @@ unfolding sample_count spells
 count_is word n least most is = given word 1 2000 n (omega arith) (record { least = least; most = omega (arith, most); is = is })
 
 -- no number that the text is read as is the word's
-pub no_count : {E : Type 0} (word : List ℕ) (read : Result ℕ E) → ParsesUnsigned 32 10 word read → ((n : ℕ) → read ≡ Ok n → 1 ≤ n → n ≤ 2000 → word ≡ decimal n → ⊥) → sample_count word ≡ None
+pub no_count : {E : Type 0} (word : List ℕ) (read : Result ℕ E) → ParsesUnsigned 32 10 word read → ((n : ℕ) → read ≡ Ok n → 1 ≤ n → n ≤ 2000 → word ≡ decimal n → ⊥)
+    → sample_count word ≡ None
 unfolding sample_count spells
 no_count word read parses never = by (sample_count word) refl
   where
@@ -83,7 +85,8 @@ module _ {E : Type 0} (word : List ℕ) (read : Result ℕ E) (parses : ParsesUn
 
   pub not_within : (count < 1) ⊎ ((1 ≤ count) × (2000 < count)) → sample_count word ≡ None
   not_within (inl low) = no_count word read parses (λ n other least most spelled. let same = same_number n other in absurd (omega (arith, low, least, same)))
-  not_within (inr high) = no_count word read parses (λ n other least most spelled. let same = same_number n other in let above = high.1 in absurd (omega (arith, above, most, same)))
+  not_within (inr high) = no_count word read parses (λ n other least most spelled. let same = same_number n other in let above = high.1 in
+      absurd (omega (arith, above, most, same)))
 
   pub other_text : bytes_eq (decimal count) word ≡ false → sample_count word ≡ None
   other_text differs = no_count word read parses (λ n other least most spelled.

@@ -31,7 +31,8 @@ module _ (said : Answer) (status : Status) (is : (status ≡ WriteFault → ⊥)
         by a.ReadFault d e whole = absurd cc
         by a.NoMemory d e whole = absurd cc
 
-    pub done_if : (asked : Option Asked) (files : Option (List (List ℕ × List ℕ))) → IfSome files (λ told. IsDue (Owes asked told) said) → Gets status (out_text said) old new before now
+    pub done_if : (asked : Option Asked) (files : Option (List (List ℕ × List ℕ))) → IfSome files (λ told. IsDue (Owes asked told) said)
+        → Gets status (out_text said) old new before now
         → status ≡ Done → IfSome files (λ told. (outcome : Outcome) × Owes asked told (Ok outcome) × Writes outcome old new)
     done_if asked None d gets e = tt
     done_if asked (Some told) d gets e = done_of (Owes asked told) d gets e
@@ -49,32 +50,39 @@ module _ (said : Answer) (status : Status) (is : (status ≡ WriteFault → ⊥)
         by (inr r) = no_err r
 
     pub complete_if : (out_old out_new : Option (List ℕ)) (asked : Option Asked) (files : Option (List (List ℕ × List ℕ)))
-        → IfSome files (λ told. (outcome : Outcome) → Owes asked told (Ok outcome) → (Rose files_before files_now → ⊥) → ((status_of said ≡ Done) × IsTextOf outcome (out_text said)) ⊎ (status_of said ≡ NoMemory))
+        → IfSome files (λ told. (outcome : Outcome) → Owes asked told (Ok outcome) → (Rose files_before files_now → ⊥)
+        → ((status_of said ≡ Done) × IsTextOf outcome (out_text said)) ⊎ (status_of said ≡ NoMemory))
         → Gets status (out_text said) out_old out_new out_before out_now
-        → IfSome files (λ told. (outcome : Outcome) → Owes asked told (Ok outcome) → (Rose files_before files_now → ⊥) → (Rose out_before out_now → ⊥) → (Rose err_before err_now → ⊥)
+        → IfSome files (λ told. (outcome : Outcome) → Owes asked told (Ok outcome) → (Rose files_before files_now → ⊥) → (Rose out_before out_now → ⊥)
+        → (Rose err_before err_now → ⊥)
         → ((status ≡ Done) × Writes outcome out_old out_new) ⊎ (status ≡ NoMemory))
     complete_if out_old out_new asked None k gets = tt
     complete_if out_old out_new asked (Some told) k gets = λ outcome owes no_file no_out no_err. by outcome (calm no_out no_err) (k outcome owes no_file)
       where
-        by : (outcome : Outcome) → (status ≡ WriteFault → ⊥) → ((status_of said ≡ Done) × IsTextOf outcome (out_text said)) ⊎ (status_of said ≡ NoMemory) → ((status ≡ Done) × Writes outcome out_old out_new) ⊎ (status ≡ NoMemory)
+        by : (outcome : Outcome) → (status ≡ WriteFault → ⊥) → ((status_of said ≡ Done) × IsTextOf outcome (out_text said)) ⊎ (status_of said ≡ NoMemory)
+            → ((status ≡ Done) × Writes outcome out_old out_new) ⊎ (status ≡ NoMemory)
         by outcome well (inl (e, t)) = inl (is well ∙ e, record { text = out_text said; is_text = t; whole = gets.all well })
         by outcome well (inr e) = inr (is well ∙ e)
 
     pub refused_if : (err_old err_new : Option (List ℕ)) (asked : Option Asked) (files : Option (List (List ℕ × List ℕ)))
-        → IfSome files (λ told. (refusal : AnyRefusal) → Owes asked told (Err (h.Refused refusal)) → (Rose files_before files_now → ⊥) → ((status_of said ≡ Refused) × (err_text said ≡ refusal_line refusal)) ⊎ (status_of said ≡ NoMemory))
+        → IfSome files (λ told. (refusal : AnyRefusal) → Owes asked told (Err (h.Refused refusal)) → (Rose files_before files_now → ⊥)
+        → ((status_of said ≡ Refused) × (err_text said ≡ refusal_line refusal)) ⊎ (status_of said ≡ NoMemory))
         → Gets status (err_text said) err_old err_new err_before err_now
-        → IfSome files (λ told. (refusal : AnyRefusal) → Owes asked told (Err (h.Refused refusal)) → (Rose files_before files_now → ⊥) → (Rose out_before out_now → ⊥) → (Rose err_before err_now → ⊥)
+        → IfSome files (λ told. (refusal : AnyRefusal) → Owes asked told (Err (h.Refused refusal)) → (Rose files_before files_now → ⊥) → (Rose out_before out_now → ⊥)
+        → (Rose err_before err_now → ⊥)
         → ((status ≡ Refused) × Appends err_old err_new (refusal_line refusal)) ⊎ (status ≡ NoMemory))
     refused_if err_old err_new asked None k gets = tt
     refused_if err_old err_new asked (Some told) k gets = λ refusal owes no_file no_out no_err. by refusal (calm no_out no_err) (k refusal owes no_file)
       where
-        by : (refusal : AnyRefusal) → (status ≡ WriteFault → ⊥) → ((status_of said ≡ Refused) × (err_text said ≡ refusal_line refusal)) ⊎ (status_of said ≡ NoMemory) → ((status ≡ Refused) × Appends err_old err_new (refusal_line refusal)) ⊎ (status ≡ NoMemory)
+        by : (refusal : AnyRefusal) → (status ≡ WriteFault → ⊥) → ((status_of said ≡ Refused) × (err_text said ≡ refusal_line refusal)) ⊎ (status_of said ≡ NoMemory)
+            → ((status ≡ Refused) × Appends err_old err_new (refusal_line refusal)) ⊎ (status ≡ NoMemory)
         by refusal well (inl (e, t)) = inl (is well ∙ e, subst (Appends err_old err_new) t (gets.all well))
         by refusal well (inr e) = inr (is well ∙ e)
 
     pub used_if : (asked : Option Asked) (files : Option (List (List ℕ × List ℕ)))
         → IfSome files (λ told. Owes asked told (Err h.Usage) → (Rose files_before files_now → ⊥) → (status_of said ≡ Usage) ⊎ (status_of said ≡ NoMemory))
-        → IfSome files (λ told. Owes asked told (Err h.Usage) → (Rose files_before files_now → ⊥) → (Rose out_before out_now → ⊥) → (Rose err_before err_now → ⊥) → (status ≡ Usage) ⊎ (status ≡ NoMemory))
+        → IfSome files (λ told. Owes asked told (Err h.Usage) → (Rose files_before files_now → ⊥) → (Rose out_before out_now → ⊥) → (Rose err_before err_now → ⊥)
+        → (status ≡ Usage) ⊎ (status ≡ NoMemory))
     used_if asked None k = tt
     used_if asked (Some told) k = λ owes no_file no_out no_err. by (calm no_out no_err) (k owes no_file)
       where

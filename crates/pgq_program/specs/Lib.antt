@@ -11,4 +11,5 @@ pub mod Running
 pub mod Runs
 pub mod Schemas
 pub mod Steps
+pub mod TableRuns
 pub mod Texts

@@ -8,7 +8,8 @@ use Rattle.csv_tables.specs.Writing.{table_text}
 use Rattle.sample_run.specs.SampleRun.{sample_summary}
 use Rattle.pgq_program.specs.Meaning.{Means}
 
--- the outcome of a command: a query in a catalog, of which a text that means it is written, that a text is without faults, that a query's is and has a weight, the table of rows under the names of their columns, or how many vertices, edges, rows and different rows the generated run has
+-- the outcome of a command: a query in a catalog, of which a text that means it is written, that a text is without faults, that a query's is and has a weight, the
+-- table of rows under the names of their columns, or how many vertices, edges, rows and different rows the generated run has
 pub data Outcome : Type 0 where
   Translation : Catalog → CheckedQuery → Outcome
   Sound : Outcome

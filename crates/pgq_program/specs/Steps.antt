@@ -107,7 +107,8 @@ IsAnswerOf schema query words files answer =
 -- the query of the generated run, and then its answer over the tables with n persons; no file is read
 abbrev pub IsSampled : ℕ → Result Outcome Halt → Type 0
 IsSampled n answer =
-    Then (Halted (IsQueryRead sample_catalog sample_query)) (λ query. Then (Only (halting (answer_due sample_catalog query (sample_rows n)))) (λ rows. Only (Ok (summary_of n rows)))) answer
+    Then (Halted (IsQueryRead sample_catalog sample_query)) (λ query. Then (Only (halting (answer_due sample_catalog query (sample_rows n))))
+    (λ rows. Only (Ok (summary_of n rows)))) answer
 
 -- what the words are due
 abbrev pub Owes : Option Asked → List (List ℕ × List ℕ) → Result Outcome Halt → Type 0

@@ -14,21 +14,16 @@ mod sampling;
 mod schemas;
 mod status;
 mod steps;
+mod table_runs;
 mod telling;
 mod texts;
 mod top;
 mod words;
 
-pub use laws::{one_answer, one_query};
+pub use laws::{one_answer, one_catalog, one_query, summary_is_due};
+pub use lines::line_of;
 pub use status::Status;
+pub use table_files::TableText;
+pub use table_runs::run_texts;
 pub use texts::translate_texts;
 pub use top::pgq;
-
-#[cfg(test)]
-mod query_tests;
-#[cfg(test)]
-mod schema_tests;
-#[cfg(test)]
-mod table_tests;
-#[cfg(test)]
-mod tests;

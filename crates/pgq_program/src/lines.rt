@@ -47,7 +47,7 @@ fn put_detail(alloc: Global, line: &mut List<u8>, detail: &Detail) -> Result<(),
 
 /// The line of a refusal, with its newline.
 #[tactic(auto, unfolding(crate::specs::Lines::refusal_line))]
-pub(crate) fn line_of(alloc: Global, refusal: &Refusal) -> Result<List<u8>, NoMemory>
+pub fn line_of(alloc: Global, refusal: &Refusal) -> Result<List<u8>, NoMemory>
     ensures { IfOk result (λ line. line ≡ refusal_line refusal.now) }
 {
     let mut line = List::new(alloc);

@@ -38,8 +38,8 @@ pub(crate) fn answer_rows(
     rows_of(alloc, Role::Query, catalog, &sql, instance)
 }
 
-// The table text of a query's answer over an instance that fits. The text of a table does not show the order of its rows.
-fn answer_table(
+/// The table text of a query's answer over an instance that fits. The text of a table does not show the order of its rows.
+pub(crate) fn answer_table(
     alloc: Global,
     catalog: &Catalog,
     query: &CheckedQuery,

@@ -1,8 +1,9 @@
-ghost use Rattle.std.specs.Prelude.{◌≡◌, ◌≤◌, ◌*◌, IfOk, IsErrOf, length, map};
+ghost use Rattle.std.specs.Prelude.{◌≡◌, ◌≤◌, ◌*◌, IfOk, IsErrOf, IsOkUnless, length, map};
 ghost use Rattle.csv_tables.specs.Outcomes.{values_of};
 ghost use Rattle.graph_meaning.specs.Lists.{distinct};
 ghost use Rattle.pgq_base.specs.Instances.{same_values};
 ghost use Rattle.query_lowering.specs.Translatable.{IsTranslatable};
+ghost use Rattle.sample_bound.specs.SampleQuery.{sample_checked};
 ghost use Rattle.sample_run.specs.SampleCatalog.{sample_catalog};
 ghost use Rattle.sample_run.specs.SampleRun.{sample_query, sample_rows, sample_summary};
 ghost use Rattle.pgq_program.specs.Halts.{halting};
@@ -25,6 +26,8 @@ use std::alloc::Global;
 fn sampled_query(alloc: Global, catalog: &Catalog) -> Result<CheckedQuery, Halt>
     requires { catalog.now ≡ sample_catalog }
     ensures due { StepGives (Halted (IsQueryRead sample_catalog sample_query)) result }
+    ensures is { IfOk result (λ query. query ≡ sample_checked) }
+    ensures whole { IsOkUnless result Halt.NoMemory }
     ensures translatable { IfOk result (λ query. IsTranslatable sample_catalog query) }
     ensures never { IsErrOf result Halt.Usage → ⊥ }
     ensures calm { IsErrOf result Halt.ReadFault → ⊥ }
@@ -44,7 +47,9 @@ fn sampled_rows(
     requires most { count ≤ 2000 }
     requires is { catalog.now ≡ sample_catalog }
     requires translatable { IsTranslatable sample_catalog query.now }
-    ensures { GivesRows (halting (answer_due sample_catalog query.now (sample_rows count))) result }
+    requires of_run { query.now ≡ sample_checked }
+    ensures rows { GivesRows (halting (answer_due sample_catalog query.now (sample_rows count))) result }
+    ensures whole { IsOkUnless result Halt.NoMemory }
 {
     let instance = sample_tables(alloc, count)?;
     answer_rows(alloc, catalog, query, &instance)
@@ -61,11 +66,13 @@ fn summary_of(alloc: Global, count: u32, rows: &[Row]) -> Result<List<u8>, NoMem
 }
 
 /// The summary of the generated run with so many persons: four lines that say how many vertices and edges
-/// there are, how many rows the answer of its query has, and how many of these are different.
+/// there are, how many rows the answer of its query has, and how many of these are different. There is one unless
+/// memory is refused: the query text has no fault, and its answer is small.
 pub(crate) fn sample(alloc: Global, count: u32) -> Result<List<u8>, Halt>
     requires some { 1 ≤ count }
     requires most { count ≤ 2000 }
     ensures told { StepWrites (IsSampled count) result }
+    ensures whole { IsOkUnless result Halt.NoMemory }
     ensures never { IsErrOf result Halt.Usage → ⊥ }
     ensures calm { IsErrOf result Halt.ReadFault → ⊥ }
 {

@@ -4,7 +4,6 @@ ghost use Rattle.sql_lexer.specs.Spans.{RefusalLiesIn};
 ghost use Rattle.pgq_program.specs.Schemas.{IsRead};
 ghost use Rattle.pgq_program.specs.Texts.{GivesDue};
 
-use crate::texts::{TEXT_LIMIT, too_large};
 use graph_ast::Catalog;
 use pgq_base::{Role, Stop};
 use schema_parser::parse_schema;

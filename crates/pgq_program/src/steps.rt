@@ -1,9 +1,9 @@
-ghost use Rattle.std.specs.Prelude.{◌≡◌, ◌≤◌, ◌⊎◌, ◌++◌, IfSome, IfOk, IsErrOf, None, Some, Err, length, codes, decimal};
+ghost use Rattle.std.specs.Prelude.{◌≡◌, ℕ, ◌≤◌, ◌⊎◌, ◌++◌, IfSome, IfOk, IsErrOf, IsOkUnless, None, Some, Err, length, codes, decimal};
 ghost use Rattle.graph_ast.specs.Catalogs.{IsValidCatalog};
 ghost use Rattle.pgq_base.specs.Files.{IsAsked};
 ghost use Rattle.query_lowering.specs.Translatable.{IsTranslatable};
 ghost use Rattle.pgq_program.specs.Chains.{Only};
-ghost use Rattle.pgq_program.specs.Commands.Asked.{OfTranslate, OfCheck, OfCheckQuery};
+ghost use Rattle.pgq_program.specs.Commands.Asked.{OfTranslate, OfCheck, OfCheckQuery, OfSample};
 ghost use Rattle.pgq_program.specs.Commands.{command_of, MayBeUsage};
 ghost use Rattle.pgq_program.specs.Queries.{IsQueryRead};
 ghost use Rattle.pgq_program.specs.Schemas.{IsRead};
@@ -222,6 +222,7 @@ pub(crate) fn answer<F: Shelf>(
     ensures told { IfSome (F.files files.old) (λ told. StepWrites (Owes (command_of words.now) told) result) }
     ensures usage { command_of words.now ≡ None → (result ≡ Err Halt.Usage) ⊎ (result ≡ Err Halt.NoMemory) }
     ensures asked { IsErrOf result Halt.Usage → MayBeUsage (command_of words.now) }
+    ensures sampled { (n : ℕ) → command_of words.now ≡ Some (OfSample n) → IsOkUnless result Halt.NoMemory }
 {
     match read_words(alloc, words)? {
         None => Err(Halt::Usage),

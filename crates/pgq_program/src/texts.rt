@@ -30,7 +30,7 @@ pub(crate) fn too_large(role: Role) -> Refusal
     }
 }
 
-fn catalog_in(alloc: Global, schema: &[u8]) -> Result<Catalog, Stop>
+pub(crate) fn catalog_in(alloc: Global, schema: &[u8]) -> Result<Catalog, Stop>
     ensures due { GivesDue (IsSchemaDue schema.now) result }
     ensures valid { IfOk result (λ catalog. IsValidCatalog catalog) }
 {
@@ -40,7 +40,7 @@ fn catalog_in(alloc: Global, schema: &[u8]) -> Result<Catalog, Stop>
     read_catalog(alloc, schema)
 }
 
-fn query_in(alloc: Global, catalog: &Catalog, query: &[u8]) -> Result<CheckedQuery, Stop>
+pub(crate) fn query_in(alloc: Global, catalog: &Catalog, query: &[u8]) -> Result<CheckedQuery, Stop>
     requires { IsValidCatalog catalog.now }
     ensures due { GivesDue (IsQueryDue catalog.now query.now) result }
     ensures translatable { IfOk result (λ query. IsTranslatable catalog.now query) }

@@ -2,6 +2,7 @@ ghost use Rattle.std.specs.Prelude.{◌≡◌, ◌⊎◌, ◌≤◌, ℕ, List, 
 ghost use Rattle.std.specs.Io.KnownBytes.{Appends};
 ghost use Rattle.pgq_base.specs.Causes.{Rose};
 ghost use Rattle.pgq_program.specs.declared.halt.Halt.TheVariants.{Refused as IsRefused, Usage as IsUsage};
+ghost use Rattle.pgq_program.specs.Commands.Asked.{OfSample};
 ghost use Rattle.pgq_program.specs.Commands.{command_of, MayBeUsage};
 ghost use Rattle.pgq_program.specs.Lines.{refusal_line, IsLineOf};
 ghost use Rattle.pgq_program.specs.Outcomes.{Outcome, IsTextOf, Writes};
@@ -76,6 +77,9 @@ pub fn pgq<F: Shelf, S: Sink, E: Sink>(
         → (result ≡ Status.Usage) ⊎ (result ≡ Status.NoMemory)) }
     ensures form { command_of words.now ≡ None → (result ≡ Status.Usage) ⊎ (result ≡ Status.NoMemory) ⊎ (result ≡ Status.WriteFault) }
 
+    // `sample N` is never refused: its summary is written, but for want of memory and a fault of a sink.
+    ensures sampled { (n : ℕ) → command_of words.now ≡ Some (OfSample n) → (result ≡ Status.Done) ⊎ (result ≡ Status.NoMemory) ⊎ (result ≡ Status.WriteFault) }
+
     // The outside is blamed only where a count rose, or stands at its last value, and no count rose under another answer.
     ensures read { result ≡ Status.ReadFault → Rose (F.faults files.old) (F.faults files.new) }
     ensures write { result ≡ Status.WriteFault → Rose (S.faults out.old) (S.faults out.new) ⊎ Rose (E.faults err.old) (E.faults err.new) }
@@ -107,6 +111,7 @@ fn decide<F: Shelf>(alloc: Global, words: &[Text], files: &mut F) -> Answer
     ensures line { IsLineOf (status_of result) (err_text result) }
     ensures form { command_of words.now ≡ None → (status_of result ≡ Status.Usage) ⊎ (status_of result ≡ Status.NoMemory) }
     ensures usage { status_of result ≡ Status.Usage → MayBeUsage (command_of words.now) }
+    ensures sampled { (n : ℕ) → command_of words.now ≡ Some (OfSample n) → (status_of result ≡ Status.Done) ⊎ (status_of result ≡ Status.NoMemory) }
     ensures told { status_of result ≡ Status.Refused → IfSome (F.files files.old) (λ told. IsLineDue (command_of words.now) told (err_text result)) }
     ensures complete { IfSome (F.files files.old) (λ told. (outcome : Outcome) → Owes (command_of words.now) told (Ok outcome) → (Rose (F.faults files.old) (F.faults files.new) → ⊥)
         → ((status_of result ≡ Status.Done) × IsTextOf outcome (out_text result)) ⊎ (status_of result ≡ Status.NoMemory)) }
@@ -128,6 +133,7 @@ fn answer_of<F: Shelf>(alloc: Global, words: &[Text], files: &mut F) -> Answer
     ensures line { IsLineOf (status_of result) (err_text result) }
     ensures form { command_of words.now ≡ None → (status_of result ≡ Status.Usage) ⊎ (status_of result ≡ Status.NoMemory) }
     ensures usage { status_of result ≡ Status.Usage → MayBeUsage (command_of words.now) }
+    ensures sampled { (n : ℕ) → command_of words.now ≡ Some (OfSample n) → (status_of result ≡ Status.Done) ⊎ (status_of result ≡ Status.NoMemory) }
 {
     match answer(alloc, words, files) {
         Ok(text) => Answer::Done(text),

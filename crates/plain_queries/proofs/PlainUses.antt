@@ -16,7 +16,8 @@ use Rattle.graph_ast.specs.declared.query.Quantifier.{Quantifier}
 use Rattle.graph_ast.specs.declared.query.Factor.{Factor}
 use Rattle.graph_ast.specs.declared.query.Factor.TheVariants as v
 use Rattle.graph_ast.specs.Patterns.{Part, given_by, body_given, part_given}
-use Rattle.pattern_check.specs.Scopes.{Around, Use, Uses, uses_in, uses_in_any, names_in, around_inside, body_variables, body_uses, using, path_uses, nothing_around, uses, row_conditions, body_conditions, conditions, path_conditions, wheres}
+use Rattle.pattern_check.specs.Scopes.{Around, Use, Uses, uses_in, uses_in_any, names_in, around_inside, body_variables, body_uses, using, path_uses, nothing_around, uses}
+use Rattle.pattern_check.specs.Scopes.{row_conditions, body_conditions, conditions, path_conditions, wheres}
 use Rattle.pattern_check.proofs.Opened.{condition_inside}
 use Rattle.pattern_check.proofs.Factors.{together, given_vertex, given_edge, given_part, part_operands, operands_given, rows_of, rows_in, Each, each_union}
 use Rattle.pattern_check.proofs.LowerableConditions.{Leaves}

@@ -12,10 +12,12 @@ use Rattle.condition_grammar.specs.Spans.{reach, Tail, tested}
 use Rattle.condition_grammar.specs.Conditions as g
 use Rattle.condition_grammar.specs.Conditions.{Inside}
 use Rattle.pattern_parser.specs.Insides.{Own, HeldOwn, Production, list}
-use Rattle.pattern_parser.specs.Tests.{Tree, OfName, dotted, date_text, own_operand, test_tail, truth_test, with_tail, not_when, predicate, related, end_of_edge, relation, after_name, after_group_word, unnamed_operand, test_from, test, negation, conjunction, condition, more_members}
+use Rattle.pattern_parser.specs.Tests.{Tree, OfName, dotted, date_text, own_operand, test_tail, truth_test, with_tail, not_when, predicate, related, end_of_edge, relation}
+use Rattle.pattern_parser.specs.Tests.{after_name, after_group_word, unnamed_operand, test_from, test, negation, conjunction, condition, more_members}
 use Rattle.plain_queries.proofs.SpelledLiterals.{HasText, plain_token, negated_token, text_token, date_token}
 use Rattle.plain_queries.proofs.RuleValues.{Parts, Of, Given, Gives, any_gives, one_gives, mapped_gives, seq_gives, either_gives, opt_gives, many_gives, after_gives, nest_gives}
-use Rattle.plain_queries.proofs.SpelledNodes.{Spelled, SomeSpelled, TwoSpelled, one_of, one_more, literal_spelled, leaf_spelled, compared_spelled, ranged_spelled, listed_spelled, tested_spelled, negated_spelled, not_spelled, all_of_spelled, any_of_spelled, coalesced_spelled, Tailed, unless_spelled}
+use Rattle.plain_queries.proofs.SpelledNodes.{Spelled, SomeSpelled, TwoSpelled, one_of, one_more, literal_spelled, leaf_spelled, compared_spelled, ranged_spelled, listed_spelled}
+use Rattle.plain_queries.proofs.SpelledNodes.{tested_spelled, negated_spelled, not_spelled, all_of_spelled, any_of_spelled, coalesced_spelled, Tailed, unless_spelled}
 
 abbrev Flagged : Of (Bool → Tail PropertyRef)
 Flagged f = (b : Bool) → Tailed (f b)

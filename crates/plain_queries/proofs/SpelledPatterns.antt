@@ -15,10 +15,12 @@ use Rattle.condition_grammar.specs.Conditions.{Inside}
 use Rattle.pattern_check.specs.Scopes.{row_conditions, body_conditions, part_conditions, conditions, path_conditions}
 use Rattle.pattern_check.proofs.Factors.{together, given_vertex, given_edge, given_part}
 use Rattle.pattern_parser.specs.Insides.{Own, HeldOwn, Production}
-use Rattle.pattern_parser.specs.Patterns.{in_square, pointed, edge_end, wave_end, dashed, waved, left_edge, edge, node_of, placed, reach_over, part_of, part_at, vertex_at, edge_at, part_or_vertex, factor, sequence_of, sequence, Joined, joint_in, operand_in, sequence_in, union_of, union, path}
+use Rattle.pattern_parser.specs.Patterns.{in_square, pointed, edge_end, wave_end, dashed, waved, left_edge, edge, node_of, placed, reach_over, part_of, part_at, vertex_at}
+use Rattle.pattern_parser.specs.Patterns.{edge_at, part_or_vertex, factor, sequence_of, sequence, Joined, joint_in, operand_in, sequence_in, union_of, union, path}
 use Rattle.token_marks.specs.declared.mark.Mark.{Mark}
 use Rattle.plain_queries.proofs.SpelledTrees.{is_spelled}
-use Rattle.plain_queries.proofs.RuleValues.{Parts, Of, Given, Gives, Any, Pair, IfGiven, Each, any_gives, mapped_gives, seq_gives, either_gives, opt_gives, many_gives, nest_gives, fork_gives}
+use Rattle.plain_queries.proofs.RuleValues.{Parts, Of, Given, Gives, Any, Pair, IfGiven, Each, any_gives, mapped_gives, seq_gives, either_gives, opt_gives, many_gives}
+use Rattle.plain_queries.proofs.RuleValues.{nest_gives, fork_gives}
 
 -- ---- what the parser has in its hands, which other crates name by the rules that give it
 

@@ -22,10 +22,12 @@ use Rattle.pattern_parser.specs.Tests.{Tree}
 use Rattle.pattern_parser.specs.Queries.{where_part, filler, part, count_gather, leaf_gather, item_rest, after_word, first_member, item, tree_of, table, query, inside}
 use Rattle.pattern_parser.specs.Outcomes.{SpellsQuery}
 use Rattle.plain_queries.proofs.WrittenTokens.{AreWritten, tokens_written}
-use Rattle.plain_queries.proofs.RuleValues.{Parts, Of, Given, Gives, Any, IfGiven, Each, any_gives, mapped_gives, seq_gives, either_gives, opt_gives, many_gives, after_gives, before_gives, parens_gives}
+use Rattle.plain_queries.proofs.RuleValues.{Parts, Of, Given, Gives, Any, IfGiven, Each, any_gives, mapped_gives, seq_gives, either_gives, opt_gives, many_gives, after_gives}
+use Rattle.plain_queries.proofs.RuleValues.{before_gives, parens_gives}
 use Rattle.plain_queries.proofs.SpelledTrees.{is_spelled}
 use Rattle.plain_queries.proofs.SpelledNodes.{Spelled, SomeSpelled, TwoSpelled, literal_spelled, not_spelled}
-use Rattle.plain_queries.proofs.SpelledConditions.{Inner, condition_spelled, operands_spelled, members_spelled, after_name_spelled, test_spelled, test_from_spelled, more_members_spelled}
+use Rattle.plain_queries.proofs.SpelledConditions.{Inner, condition_spelled, operands_spelled, members_spelled, after_name_spelled, test_spelled, test_from_spelled}
+use Rattle.plain_queries.proofs.SpelledConditions.{more_members_spelled}
 use Rattle.plain_queries.proofs.SpelledPatterns.{IsSpelled, AreSpelled, option_spelled, ContentSpelled, PartSpelled, PathSpelled, joined_spelled, path_spelled}
 
 -- it has path patterns and items, whose conditions are spelled

@@ -6,3 +6,5 @@ pub mod Served
 pub mod SoundOf
 pub mod SpelledOf
 pub mod NamesOf
+pub mod Zipped
+pub mod PathOf

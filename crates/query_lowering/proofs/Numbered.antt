@@ -14,7 +14,7 @@ use Rattle.pattern_check.proofs.LowerablePaths.{few_operands}
 use Rattle.query_lowering.specs.Translatable.{IsTranslatable}
 
 -- 8 paths, and 4,096 operands, are few
-fits_number : (n most : ℕ) → n ≤ most → most ≤ 4096 → n < 2 ^ 32
+pub fits_number : (n most : ℕ) → n ≤ most → most ≤ 4096 → n < 2 ^ 32
 fits_number n most h small = omega (arith, h, small)
 
 all_few : (paths : List CheckedPath) → AllByRecursion IsShortPath paths → All (λ (path : CheckedPath). length path.operands < 2 ^ 32) paths

@@ -28,7 +28,7 @@ assigned_long graph count elements h =
     zip_long IsIn elements lists (from_combinations elements lists h) ∙ alternating_long (numbers_below (length graph.vertices)) (numbers_below (length graph.edges)) count
 
 -- a path block has the places of some choice
-part_short : (graph : Graph) (path : CheckedPath) (place : ℕ) (part : PathBlock) → IsIn part (path_blocks graph place path) → length part.elements ≤ 2 * longest path + 1
+pub part_short : (graph : Graph) (path : CheckedPath) (place : ℕ) (part : PathBlock) → IsIn part (path_blocks graph place path) → length part.elements ≤ 2 * longest path + 1
 part_short graph path place part h =
     let made = from_map (block_of graph path place) part (shapes graph path) h in
     let of = from_flat (shapes_of graph path) made.0 (choices path) (from_distinct same_shape same_shape_decides made.0 (flat_map (shapes_of graph path) (choices path)) made.1) in

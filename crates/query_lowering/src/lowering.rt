@@ -12,7 +12,7 @@ ghost use Rattle.path_lowering.specs.Layable.{IsServed};
 ghost use Rattle.shortest_lowering.specs.Selected.{selected_query};
 ghost use Rattle.query_lowering.specs.Translatable.{IsTranslatable};
 
-use crate::candidates::candidates_of;
+use crate::block_lists::candidates_of;
 use crate::names::{outputs_are_named, tables_are_named};
 use graph_ast::{Catalog, CheckedQuery};
 use normal_form::blocks;
@@ -44,6 +44,7 @@ fn selected(alloc: Global, catalog: &Catalog, query: &CheckedQuery) -> Result<Sq
 /// instance that fits with the rows of the answer, each equally often. It fails only for want of memory.
 pub fn lower(alloc: Global, catalog: &Catalog, query: &CheckedQuery) -> Result<SqlQuery, NoMemory>
     requires { IsTranslatable catalog.now query.now }
+    ensures exact { IfOk result (λ sql. sql ≡ selected_query catalog.now apart query.now) }
     ensures sound { IfOk result (λ sql. IsSound sql catalog.now) }
     ensures printable { IfOk result IsPrintable }
     ensures names { IfOk result (λ sql. names_of sql ≡ map (λ output. output.name) query.now.columns) }

@@ -73,28 +73,28 @@ module _ (catalog : Catalog) (instance : InstanceRows) (meets : MeetsTypes catal
       ∙ (sound_parts catalog select [] sound).columns
 
   -- the outputs of what is found
-  rows_found : (stage : Stage) (outputs : List Output) → IsPlanOf catalog instance select [] stage → AreOutputsOf catalog alone select.columns outputs
-      → map (output_row outputs) (found instance stage []) ≡ select_rows catalog instance select []
-  rows_found stage outputs plan are =
-      let is_plan : map (tuple_of alone) (found instance stage []) ≡ kept_by catalog instance select [] = plan [] refl tt in
+  rows_found : (stages : List Stage) (outputs : List Output) → IsPlanOf catalog instance select [] stages → AreOutputsOf catalog alone select.columns outputs
+      → map (output_row outputs) (found instance stages []) ≡ select_rows catalog instance select []
+  rows_found stages outputs plan are =
+      let is_plan : map (tuple_of alone) (found instance stages []) ≡ kept_by catalog instance select [] = plan [] refl tt in
       map_on (output_row outputs) (λ t. m.output_row catalog select.columns (tuple_of alone t)) (λ t. IsTyped catalog (tuple_of alone t))
-      (λ t typed. output_means catalog alone t typed select.columns outputs are columns_sound) (found instance stage [])
-      (all_map (IsTyped catalog) (tuple_of alone) (found instance stage [])
+      (λ t typed. output_means catalog alone t typed select.columns outputs are columns_sound) (found instance stages [])
+      (all_map (IsTyped catalog) (tuple_of alone) (found instance stages [])
       (subst (AllByRecursion (IsTyped catalog)) (sym is_plan) (all_filter (IsTyped catalog) _ _ (typed_under catalog instance meets select.from [] tt))))
-      ∙ sym (map_map (m.output_row catalog select.columns) (tuple_of alone) (found instance stage [])) ∙ ap (map (m.output_row catalog select.columns)) is_plan
+      ∙ sym (map_map (m.output_row catalog select.columns) (tuple_of alone) (found instance stages [])) ∙ ap (map (m.output_row catalog select.columns)) is_plan
       ∙ ap (λ f. f []) (sym (select_means catalog instance select))
 
   map_long : {X Y : Type 0} (f : X → Y) (xs : List X) → length (map f xs) ≡ length xs
   map_long f [] = refl
   map_long f (x ∷ xs) = ap suc (map_long f xs)
 
-  pub answered : (stage : Stage) (outputs : List Output) → IsPlanOf catalog instance select [] stage → AreOutputsOf catalog alone select.columns outputs
+  pub answered : (stages : List Stage) (outputs : List Output) → IsPlanOf catalog instance select [] stages → AreOutputsOf catalog alone select.columns outputs
       → (limit : ℕ) (old new : List Row) (all : Bool)
-      → Collects outputs limit old new (found instance stage []) all → Answers limit old new (select_rows catalog instance select []) all
-  answered stage outputs plan are limit old new true h = (h.0 ∙ ap (λ l. row_values old ++ l) (rows_found stage outputs plan are), h.1)
-  answered stage outputs plan are limit old new false h =
-      let long : length (select_rows catalog instance select []) ≡ length (found instance stage []) = ap length (sym (rows_found stage outputs plan are))
-      ∙ map_long (output_row outputs) (found instance stage []) in
+      → Collects outputs limit old new (found instance stages []) all → Answers limit old new (select_rows catalog instance select []) all
+  answered stages outputs plan are limit old new true h = (h.0 ∙ ap (λ l. row_values old ++ l) (rows_found stages outputs plan are), h.1)
+  answered stages outputs plan are limit old new false h =
+      let long : length (select_rows catalog instance select []) ≡ length (found instance stages []) = ap length (sym (rows_found stages outputs plan are))
+      ∙ map_long (output_row outputs) (found instance stages []) in
       omega (arith, h, long)
 
 -- ---- the columns one after another

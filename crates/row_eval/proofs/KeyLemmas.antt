@@ -1,5 +1,6 @@
 -- The groups of each key of an access, and the places that they give.
-use Rattle.std.proofs.Common.{◌≡◌, ℕ, suc, zero, ◌+◌, ◌<◌, ◌||◌, Bool, true, false, List, [], ◌∷◌, ◌++◌, take, length, get_or, refl, sym, ap, subst, ◌∙◌, arith, Option, Some, None, eq-eqb}
+use Rattle.std.proofs.Common.{◌≡◌, ℕ, suc, zero, ◌+◌, ◌<◌, ◌||◌, Bool, true, false, List, [], ◌∷◌, ◌++◌, take, length, get_or, refl, sym, ap, subst, ◌∙◌, arith, Option, Some}
+use Rattle.std.proofs.Common.{None, eq-eqb}
 use Rattle.std.specs.Prelude.{filter}
 use Rattle.std.specs.Hash.FoldHasher as folding
 use Rattle.std.proofs.lemmas.Bool.{and_parts}

@@ -1,5 +1,6 @@
 -- The stages of a select, step by step.
-use Rattle.std.proofs.Common.{◌≡◌, ℕ, suc, zero, ◌+◌, ◌-◌, ◌<◌, ◌≤◌, ◌^◌, cond, ◌&&◌, Bool, true, false, List, [], ◌∷◌, ◌++◌, map, take, length, get_or, refl, sym, ap, subst, ◌∙◌, arith}
+use Rattle.std.proofs.Common.{◌≡◌, ℕ, suc, zero, ◌+◌, ◌-◌, ◌<◌, ◌≤◌, ◌^◌, cond, ◌&&◌, Bool, true, false, List, [], ◌∷◌, ◌++◌, map, take, length, get_or, refl, sym, ap, subst}
+use Rattle.std.proofs.Common.{◌∙◌, arith}
 use Rattle.std.specs.Prelude.{is_some}
 use Rattle.std.specs.List.{list_all, AllByRecursion}
 use Rattle.std.proofs.lemmas.Bool.{and_parts}
@@ -19,7 +20,6 @@ use Rattle.sql_algebra.specs.Meaning as m
 use Rattle.sql_algebra.specs.Meaning.{has_none, select_rows}
 use Rattle.sql_algebra.specs.Soundness.{select_is_sound}
 use Rattle.sql_algebra.proofs.Folds.{conjunct_is_sound, select_means, not_exists_sound}
-use Rattle.row_eval.specs.declared.access.Access.{Access}
 use Rattle.row_eval.specs.declared.index.Index.{Index}
 use Rattle.row_eval.specs.declared.legs.Leg.{Leg}
 use Rattle.row_eval.specs.declared.scope.Reached.{Reached}
@@ -29,15 +29,16 @@ use Rattle.row_eval.specs.declared.stage.Stage.TheVariants as v
 use Rattle.row_eval.specs.Slots.{Stack}
 use Rattle.row_eval.specs.Stages.{all_kept, found, accesses}
 use Rattle.row_eval.specs.Joins.{chain_found}
-use Rattle.row_eval.specs.Served.{AllServed}
+use Rattle.row_eval.specs.Served.{AllServed, IsServed}
 use Rattle.row_eval.specs.Scopes.{Placed, placed, own_places, reach_under, AreBelow, tuple_of}
 use Rattle.row_eval.specs.Sorted.{IsSorted, IsNarrow, SortsAll, table_place_of, leg_tables}
 use Rattle.row_eval.specs.Typed.{MeetsTypes, IsTyped}
 use Rattle.row_eval.specs.Plans.{items_in, conditions_in, is_absent_at, all_absent, kept_by, IsEndOf, IsPlanOf}
 use Rattle.row_eval.proofs.PlanLemmas.{sound_parts, reach_items, reach_long, select_found}
 use Rattle.row_eval.proofs.SortLemmas.{known_place}
-use Rattle.row_eval.proofs.StageLemmas.{found-Keep, found-Absent, found-Done, accesses-Absent}
+use Rattle.row_eval.proofs.StageLemmas.{found-Keep, found-Absent, found-none, accesses-Absent}
 use Rattle.row_eval.proofs.TupleLemmas.{tables_of, map_map}
+use Rattle.row_eval.proofs.TypedLemmas.{all_both}
 
 -- ---- the tables of the legs
 
@@ -124,16 +125,16 @@ legs_below reach items outer e h =
 pub joins_plan : (catalog : Catalog) (instance : InstanceRows) → MeetsTypes catalog instance → (select : Select) (outer reach : List Reached)
     → select_is_sound catalog select (items_in (placed outer)) ≡ true
     → AreBelow (length outer) (placed outer) → placed reach ≡ reach_under select.from (placed outer)
-    → (sorted : Sorted) (end joined stage : Stage) → stage ≡ v.Keep sorted.first joined
+    → (sorted : Sorted) (end joined stages : List Stage) → stages ≡ joined ++ v.Keep sorted.first ∷ []
     → ((s : Stack) → length s ≡ length outer → found instance joined s ≡ chain_found instance sorted.legs.items (found instance end) s)
     → IsEndOf catalog instance select.conjuncts (placed reach) end
     → length outer + length sorted.legs.items < 2 ^ 64 - 1 → IsSorted (length outer) sorted.first sorted.legs.items → IsNarrow (length outer) sorted
     → leg_tables sorted.legs.items ≡ map (table_place_of catalog) select.from → SortsAll catalog (placed reach) (conditions_in select.from select.conjuncts) sorted
-    → IsPlanOf catalog instance select (placed outer) stage
-joins_plan catalog instance meets select outer reach sound below same sorted end joined stage is join each_end small in_order narrow tables all = λ s long typed.
+    → IsPlanOf catalog instance select (placed outer) stages
+joins_plan catalog instance meets select outer reach sound below same sorted end joined stages is join each_end small in_order narrow tables all = λ s long typed.
     let long_outer = long ∙ placed_long outer in
     ap (map (tuple_of (reach_under select.from (placed outer))))
-    (found-Keep instance s stage sorted.first joined is ∙ ap (λ x. cond (all_kept sorted.first s) x []) (join s long_outer))
+    (found-Keep instance s stages sorted.first joined is ∙ ap (λ x. cond (all_kept sorted.first s) x []) (join s long_outer))
     ∙ select_found catalog instance meets select (placed outer) sound
     (subst (λ n. AreBelow n (placed outer)) (sym (placed_long outer)) below) s long typed sorted.first sorted.legs.items (found instance end)
     (subst (λ n. n + length sorted.legs.items < 2 ^ 64 - 1) (sym (placed_long outer)) small)
@@ -156,11 +157,11 @@ none_mapped f [] = refl
 none_mapped f (x ∷ xs) = refl
 
 -- an inner select finds nothing exactly where it has no row
-inner_none : (catalog : Catalog) (instance : InstanceRows) (select : Select) (reach : List Placed) (stage : Stage) → IsPlanOf catalog instance select reach stage
-    → (s : Stack) → length s ≡ length reach → IsTyped catalog (tuple_of reach s) → has_none (found instance stage s)
+inner_none : (catalog : Catalog) (instance : InstanceRows) (select : Select) (reach : List Placed) (stages : List Stage) → IsPlanOf catalog instance select reach stages
+    → (s : Stack) → length s ≡ length reach → IsTyped catalog (tuple_of reach s) → has_none (found instance stages s)
     ≡ has_none (select_rows catalog instance select (tuple_of reach s))
-inner_none catalog instance select reach stage plan s long typed =
-    sym (none_mapped (tuple_of (reach_under select.from reach)) (found instance stage s)) ∙ ap has_none (plan s long typed)
+inner_none catalog instance select reach stages plan s long typed =
+    sym (none_mapped (tuple_of (reach_under select.from reach)) (found instance stages s)) ∙ ap has_none (plan s long typed)
     ∙ sym (none_mapped (m.output_row catalog select.columns) (kept_by catalog instance select (tuple_of reach s)))
     ∙ ap (λ f. has_none (f (tuple_of reach s))) (sym (select_means catalog instance select))
 
@@ -177,12 +178,12 @@ module _ (catalog : Catalog) (instance : InstanceRows) (reach : List Placed) whe
       and_true true = refl
       and_true false = refl
 
-  pub end_none : (stage : Stage) → stage ≡ v.Done → IsEndOf catalog instance [] reach stage
-  end_none stage is = λ s long typed. found-Done instance s stage is
+  pub end_none : (stages : List Stage) → stages ≡ [] → IsEndOf catalog instance [] reach stages
+  end_none stages is = λ s long typed. found-none instance s stages is
 
-  pub end_plain : (all : List Conjunct) (i : ℕ) (x : Conjunct) (e : Expr ColumnLeaf) (stage : Stage) → i < length all → x ≡ get_or all i x → x ≡ cv.Plain e
-      → IsEndOf catalog instance (take i all) reach stage → IsEndOf catalog instance (take (i + 1) all) reach stage
-  end_plain all i x e stage h is plain each = λ s long typed.
+  pub end_plain : (all : List Conjunct) (i : ℕ) (x : Conjunct) (e : Expr ColumnLeaf) (stages : List Stage) → i < length all → x ≡ get_or all i x → x ≡ cv.Plain e
+      → IsEndOf catalog instance (take i all) reach stages → IsEndOf catalog instance (take (i + 1) all) reach stages
+  end_plain all i x e stages h is plain each = λ s long typed.
       each s long typed
       ∙ ap (λ b. cond b (s ∷ []) []) (same (all_absent catalog instance (take i all) (tuple_of reach s)) (tuple_of reach s) ∙ sym (absent_more all i x h is (tuple_of reach s)))
     where
@@ -194,13 +195,13 @@ module _ (catalog : Catalog) (instance : InstanceRows) (reach : List Placed) whe
           and_true true = refl
           and_true false = refl
 
-  pub end_absent : (all : List Conjunct) (i : ℕ) (x : Conjunct) (select : Select) (inner end stage : Stage) → i < length all → x ≡ get_or all i x → x ≡ cv.NotExists select
-      → stage ≡ v.Absent inner end → IsPlanOf catalog instance select reach inner
-      → IsEndOf catalog instance (take i all) reach end → IsEndOf catalog instance (take (i + 1) all) reach stage
-  end_absent all i x select inner end stage h is not_exists made plan each = λ s long typed.
+  pub end_absent : (all : List Conjunct) (i : ℕ) (x : Conjunct) (select : Select) (inner end stages : List Stage) → i < length all → x ≡ get_or all i x → x ≡ cv.NotExists select
+      → stages ≡ end ++ v.Absent inner ∷ [] → IsPlanOf catalog instance select reach inner
+      → IsEndOf catalog instance (take i all) reach end → IsEndOf catalog instance (take (i + 1) all) reach stages
+  end_absent all i x select inner end stages h is not_exists made plan each = λ s long typed.
       let tuple = tuple_of reach s in
       let none = has_none (select_rows catalog instance select tuple) in
-      found-Absent instance s stage inner end made
+      found-Absent instance s stages inner end made
       ∙ ap (λ b. cond b (found instance end s) []) (inner_none catalog instance select reach inner plan s long typed)
       ∙ ap (λ l. cond none l []) (each s long typed)
       ∙ turned none (all_absent catalog instance (take i all) tuple) s
@@ -227,11 +228,9 @@ conjunct_sound catalog items (c ∷ cs) (suc i) x select h is not_exists all =
     conjunct_sound catalog items cs i x select (omega arith) is not_exists
     (and_parts (conjunct_is_sound catalog c items) (list_all (λ conjunct. conjunct items) (map (conjunct_is_sound catalog) cs)) all).1
 
-pub absent_served : (instance : InstanceRows) (indexes : List Index) (inner end stage : Stage) → stage ≡ v.Absent inner end → AllServed instance indexes (accesses inner)
+pub absent_served : (instance : InstanceRows) (indexes : List Index) (inner end stages : List Stage) → stages ≡ end ++ v.Absent inner ∷ [] → AllServed instance indexes
+    (accesses inner)
     → AllServed instance indexes (accesses end)
-    → AllServed instance indexes (accesses stage)
-absent_served instance indexes inner end stage is one two = subst (AllServed instance indexes) (sym (accesses-Absent stage inner end is)) (both (accesses inner) one)
-  where
-    both : (all : List Access) → AllServed instance indexes all → AllServed instance indexes (all ++ accesses end)
-    both [] h = two
-    both (a ∷ all) h = (h.0, both all h.1)
+    → AllServed instance indexes (accesses stages)
+absent_served instance indexes inner end stages is one two =
+    subst (AllServed instance indexes) (sym (accesses-Absent stages inner end is)) (all_both (IsServed instance indexes) (accesses end) (accesses inner) two one)

@@ -1,5 +1,6 @@
 -- What a chain of joins reads is no more than the partial tuples of its select, and what is read behind the full ones.
-use Rattle.std.proofs.Common.{◌≡◌, ℕ, suc, ◌+◌, ◌-◌, ◌<◌, ◌≤◌, ◌^◌, cond, ◌&&◌, Bool, true, false, List, [], ◌∷◌, ◌++◌, map, length, get_or, refl, sym, ap, subst, ◌∙◌, arith, append_assoc, Option, Some, None}
+use Rattle.std.proofs.Common.{◌≡◌, ℕ, suc, ◌+◌, ◌-◌, ◌<◌, ◌≤◌, ◌^◌, cond, ◌&&◌, Bool, true, false, List, [], ◌∷◌, ◌++◌, map, length, get_or, refl, sym, ap, subst, ◌∙◌, arith}
+use Rattle.std.proofs.Common.{append_assoc, Option, Some, None}
 use Rattle.std.specs.Prelude.{filter, is_some, nat_le}
 use Rattle.std.specs.List.{list_all, AllByRecursion}
 use Rattle.std.proofs.Math.Seq.{get_or-append_seam}
@@ -271,7 +272,8 @@ module _ (catalog : Catalog) (instance : InstanceRows) (meets : MeetsTypes catal
       ∙ total_filter (λ row. cond (ties row) (1 + cond (all_kept leg.tests (s ++ row ∷ [])) (rest (s ++ row ∷ [])) 0) 0) ways (rows_at instance leg.table)
       ∙ ap (total (λ row. cond (ways row) (cond (ties row) (1 + cond (all_kept leg.tests (s ++ row ∷ [])) (rest (s ++ row ∷ [])) 0) 0) 0)) rows in
       subst (λ n. n ≤ most (own_tuple done s) (item ∷ items)) (sym read)
-      (subst (λ n. total (λ row. cond (ways row) (cond (ties row) (1 + cond (all_kept leg.tests (s ++ row ∷ [])) (rest (s ++ row ∷ [])) 0) 0) 0) (rows_of catalog instance item.table) ≤ n)
+      (subst (λ n. total (λ row. cond (ways row) (cond (ties row) (1 + cond (all_kept leg.tests (s ++ row ∷ [])) (rest (s ++ row ∷ [])) 0) 0) 0)
+      (rows_of catalog instance item.table) ≤ n)
       (sym (most_next (own_tuple done s) item items))
       (total_least _ _ (rows_of catalog instance item.table) (λ row in_table.
       let typed = typed_row catalog instance meets item row in_table in

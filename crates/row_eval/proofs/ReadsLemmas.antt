@@ -1,5 +1,6 @@
 -- The reads of a planned select are within those that the select may have.
-use Rattle.std.proofs.Common.{◌≡◌, ℕ, suc, zero, ◌+◌, ◌-◌, ◌<◌, ◌≤◌, ◌^◌, cond, Bool, true, false, List, [], ◌∷◌, ◌++◌, map, take, length, get_or, sum, refl, sym, ap, subst, ◌∙◌, arith}
+use Rattle.std.proofs.Common.{◌≡◌, ℕ, suc, zero, ◌+◌, ◌-◌, ◌<◌, ◌≤◌, ◌^◌, cond, Bool, true, false, List, [], ◌∷◌, ◌++◌, map, take, length, get_or, sum, refl, sym, ap, subst, ◌∙◌}
+use Rattle.std.proofs.Common.{arith}
 use Rattle.std.specs.Prelude.{flat_map}
 use Rattle.std.specs.List.{AllByRecursion}
 use Rattle.std.proofs.lemmas.List.{append-nil, take_more}
@@ -37,7 +38,7 @@ use Rattle.row_eval.proofs.PartialLemmas.{total_behind, partials, partials_all, 
 use Rattle.row_eval.proofs.PlanLemmas.{sound_parts}
 use Rattle.row_eval.proofs.PlannerLemmas.{legs_rows, placed_long}
 use Rattle.row_eval.proofs.ReadLemmas.{AreKept, most, chain_bounded}
-use Rattle.row_eval.proofs.StageLemmas.{visits-Keep, visits-Absent, visits-Done}
+use Rattle.row_eval.proofs.StageLemmas.{visits-Keep, visits-Absent, visits-none}
 use Rattle.row_eval.proofs.Totals.{total, sum_total, total_append}
 use Rattle.row_eval.proofs.TupleLemmas.{map_map}
 
@@ -93,18 +94,18 @@ first_kept s (c ∷ cs) h k = let two = and_parts (is_kept s c.expr) (all_kept c
 pub joins_within : (catalog : Catalog) (instance : InstanceRows) → MeetsTypes catalog instance → (select : Select) (outer reach : List Reached)
     → select_is_sound catalog select (items_in (placed outer)) ≡ true
     → AreBelow (length outer) (placed outer) → placed reach ≡ reach_under select.from (placed outer)
-    → (sorted : Sorted) (end joined stage : Stage) → stage ≡ v.Keep sorted.first joined
+    → (sorted : Sorted) (end joined stages : List Stage) → stages ≡ joined ++ v.Keep sorted.first ∷ []
     → ((s : Stack) → length s ≡ length outer → visits instance joined s ≡ chain_visits instance sorted.legs.items (visits instance end) s)
     → IsEndWithin catalog instance select.conjuncts (placed reach) end
     → length outer + length sorted.legs.items < 2 ^ 64 - 1 → IsSorted (length outer) sorted.first sorted.legs.items
     → leg_tables sorted.legs.items ≡ map (table_place_of catalog) select.from → SortsAll catalog (placed reach) (conditions_in select.from select.conjuncts) sorted
-    → IsWithin catalog instance select (placed outer) stage
-joins_within catalog instance meets select outer reach sound below same sorted end joined stage is join ends small in_order tables all = λ s long typed.
+    → IsWithin catalog instance select (placed outer) stages
+joins_within catalog instance meets select outer reach sound below same sorted end joined stages is join ends small in_order tables all = λ s long typed.
     let o = placed outer in
     let long_outer : length s ≡ length outer = long ∙ placed_long outer in
     let parts = sound_parts catalog select (items_in o) sound in
     let conditions = conditions_in select.from select.conjuncts in
-    subst (λ n. n ≤ select_reads catalog instance select (tuple_of o s)) (sym (visits-Keep instance s stage sorted.first joined is))
+    subst (λ n. n ≤ select_reads catalog instance select (tuple_of o s)) (sym (visits-Keep instance s stages sorted.first joined is))
     (subst (λ n. cond (all_kept sorted.first s) (visits instance joined s) 0 ≤ n) (sym (select_most catalog instance select (tuple_of o s)))
     (if_first (all_kept sorted.first s) (visits instance joined s) _ (λ first_true.
     subst (λ n. n ≤ most catalog instance meets select.from conditions o (tuple_of o s) typed parts.differ (placed_below) parts.conditions (visits instance end)
@@ -150,27 +151,28 @@ module _ (catalog : Catalog) (instance : InstanceRows) (reach : List Placed) whe
       let same : f x ≡ f (get_or all i x) = ap f is in
       omega (arith, front, split, whole, same)
 
-  pub within_none : (stage : Stage) → stage ≡ v.Done → IsEndWithin catalog instance [] reach stage
-  within_none stage is = λ s long typed. let none = visits-Done instance s stage is in omega (arith, none)
+  pub within_none : (stages : List Stage) → stages ≡ [] → IsEndWithin catalog instance [] reach stages
+  within_none stages is = λ s long typed. let none = visits-none instance s stages is in omega (arith, none)
 
-  pub within_plain : (all : List Conjunct) (i : ℕ) (x : Conjunct) (stage : Stage) → i < length all → x ≡ get_or all i x → IsEndWithin catalog instance (take i all) reach stage
-      → IsEndWithin catalog instance (take (i + 1) all) reach stage
-  within_plain all i x stage h is each = λ s long typed.
+  pub within_plain : (all : List Conjunct) (i : ℕ) (x : Conjunct) (stages : List Stage) → i < length all → x ≡ get_or all i x → IsEndWithin catalog instance (take i all) reach
+      stages
+      → IsEndWithin catalog instance (take (i + 1) all) reach stages
+  within_plain all i x stages h is each = λ s long typed.
       let least = each s long typed in
       let more = reads_more all i x h is (tuple_of reach s) in
       omega (arith, least, more)
 
-  pub within_absent : (all : List Conjunct) (i : ℕ) (x : Conjunct) (select : Select) (inner end stage : Stage) → i < length all → x ≡ get_or all i x → x ≡ cv.NotExists select
-      → stage ≡ v.Absent inner end → IsWithin catalog instance select reach inner → IsEndWithin catalog instance (take i all) reach end
-      → IsEndWithin catalog instance (take (i + 1) all) reach stage
-  within_absent all i x select inner end stage h is not_exists made within each = λ s long typed.
+  pub within_absent : (all : List Conjunct) (i : ℕ) (x : Conjunct) (select : Select) (inner end stages : List Stage) → i < length all → x ≡ get_or all i x → x ≡ cv.NotExists select
+      → stages ≡ end ++ v.Absent inner ∷ [] → IsWithin catalog instance select reach inner → IsEndWithin catalog instance (take i all) reach end
+      → IsEndWithin catalog instance (take (i + 1) all) reach stages
+  within_absent all i x select inner end stages h is not_exists made within each = λ s long typed.
       let first = within s long typed in
       let second = each s long typed in
       let more = reads_more all i x h is (tuple_of reach s) in
       let share : (share_of catalog instance x).reads (tuple_of reach s) ≡ select_reads catalog instance select (tuple_of reach s) =
       ap (λ (c : Conjunct). (share_of catalog instance c).reads (tuple_of reach s)) not_exists
       ∙ ap (λ (p : Share). p.reads (tuple_of reach s)) (at_not_exists Share (Tuple → ℕ) share_step (reads_step catalog instance) select) in
-      let both = visits-Absent instance s stage inner end made in
+      let both = visits-Absent instance s stages inner end made in
       omega (arith, first, second, more, share, both)
 
 -- ---- the tables

@@ -1,7 +1,6 @@
 -- How what is found is put out, step by step.
-use Rattle.std.proofs.Common.{◌≡◌, ℕ, suc, ◌+◌, ◌<◌, ◌≤◌, cond, ◌&&◌, Bool, true, false, List, [], ◌∷◌, ◌++◌, map, drop, length, get_or, refl, sym, ap, subst, ◌∙◌, arith, Option, Some, None, append_assoc}
-use Rattle.std.specs.Borrow.{Bor}
-use Rattle.std.specs.Option.{option_copied}
+use Rattle.std.proofs.Common.{◌≡◌, ℕ, suc, ◌+◌, ◌<◌, cond, ◌&&◌, Bool, true, false, List, [], ◌∷◌, ◌++◌, map, drop, length, get_or, refl, sym, ap, ◌∙◌, arith, Option, Some, None}
+use Rattle.std.proofs.Common.{append_assoc}
 use Rattle.std.specs.List.{list_all, fold}
 use Rattle.std.specs.Hash.FoldHasher as folding
 use Rattle.std.specs.declared.hash.FoldHasher.{FoldHasher}
@@ -20,51 +19,20 @@ use Rattle.pgq_base.proofs.ValueOrder.{comparison_tells}
 use Rattle.expr_tree.specs.declared.tree.Comparison.TheVariants.{Equal}
 use Rattle.expr_tree.specs.Meaning.{holds, known}
 use Rattle.sql_algebra.specs.Tuples.{is_true}
-use Rattle.sql_algebra.specs.Meaning.{has_none}
-use Rattle.row_eval.specs.declared.frame.Condition.{Condition}
 use Rattle.row_eval.specs.declared.frame.Output.{Output}
 use Rattle.row_eval.specs.declared.access.Access.{Access}
 use Rattle.row_eval.specs.declared.access.Tied.{Tied}
-use Rattle.row_eval.specs.declared.stage.Stage.{Stage}
-use Rattle.row_eval.specs.declared.stage.Stage.TheVariants as v
 use Rattle.row_eval.specs.Stored.{row_values}
 use Rattle.row_eval.specs.Slots.{Stack, slot_value}
-use Rattle.row_eval.specs.Access.{agree, column_value, matches_row, rows_given, rows_among}
+use Rattle.row_eval.specs.Access.{agree, column_value, matches_row, rows_among}
 use Rattle.row_eval.specs.Served.{code_from, code_of, row_code, stack_code, is_null, writes}
-use Rattle.row_eval.specs.Stages.{all_kept, found, found_on, visits, visits_on, output_row, Collects}
-use Rattle.row_eval.proofs.StageLemmas.{found-Keep, found-Join, found-Absent, visits-Keep, visits-Join, drop_next}
-
--- ---- the stages
-
-module _ (instance : InstanceRows) (s : Stack) where
-  pub found_kept : (e at rest : Stage) (cs : List Condition) → e ≡ v.Keep cs rest → at ≡ rest → true ≡ all_kept cs s → found instance at s ≡ found instance e s
-  found_kept e at rest cs is same h = ap (λ x. found instance x s) same ∙ ap (λ b. cond b (found instance rest s) []) h ∙ sym (found-Keep instance s e cs rest is)
-
-  pub found_dropped : (e rest : Stage) (cs : List Condition) → e ≡ v.Keep cs rest → false ≡ all_kept cs s → found instance e s ≡ []
-  found_dropped e rest cs is h = found-Keep instance s e cs rest is ∙ ap (λ b. cond b (found instance rest s) []) (sym h)
-
-  pub visits_kept : (e at rest : Stage) (cs : List Condition) → e ≡ v.Keep cs rest → at ≡ rest → true ≡ all_kept cs s → visits instance at s ≡ visits instance e s
-  visits_kept e at rest cs is same h = ap (λ x. visits instance x s) same ∙ ap (λ b. cond b (visits instance rest s) 0) h ∙ sym (visits-Keep instance s e cs rest is)
-
-  pub found_joined : (e at rest : Stage) (access : Access) → e ≡ v.Join access rest → at ≡ rest → found_on (found instance at) s (rows_given instance access s) ≡ found instance e s
-  found_joined e at rest access is same = ap (λ x. found_on (found instance x) s (rows_given instance access s)) same ∙ sym (found-Join instance s e access rest is)
-
-  pub visits_joined : (e at rest : Stage) (access : Access) → e ≡ v.Join access rest → at ≡ rest → visits_on (visits instance at) s (rows_given instance access s)
-      ≡ visits instance e s
-  visits_joined e at rest access is same = ap (λ x. visits_on (visits instance x) s (rows_given instance access s)) same ∙ sym (visits-Join instance s e access rest is)
-
-  pub found_absent : (e at rest first inner : Stage) → e ≡ v.Absent inner rest → first ≡ inner → at ≡ rest → true ≡ has_none (found instance first s) → found instance at s
-      ≡ found instance e s
-  found_absent e at rest first inner is one same h =
-      ap (λ x. found instance x s) same ∙ ap (λ b. cond b (found instance rest s) []) (h ∙ ap (λ x. has_none (found instance x s)) one)
-      ∙ sym (found-Absent instance s e inner rest is)
+use Rattle.row_eval.specs.Branches.{Advances}
+use Rattle.row_eval.specs.Stages.{found_on, visits_on, output_row, Collects}
+use Rattle.row_eval.proofs.StageLemmas.{drop_next}
 
 -- ---- what is put out
 
 module _ (outputs : List Output) (limit : ℕ) where
-  pub nothing : (out : List Row) (stacks : List Stack) → stacks ≡ [] → Collects outputs limit out out stacks true
-  nothing out stacks e = (sym (append-nil (row_values out)) ∙ ap (λ l. row_values out ++ map (output_row outputs) l) (sym e), λ h. h)
-
   values_long : (xs : List Row) → length (row_values xs) ≡ length xs
   values_long [] = refl
   values_long (x ∷ xs) = ap suc (values_long xs)
@@ -73,22 +41,43 @@ module _ (outputs : List Output) (limit : ℕ) where
   outputs_long [] = refl
   outputs_long (x ∷ xs) = ap suc (outputs_long xs)
 
-  pub lengths : (a b : List Row) (xs : List Stack) → row_values b ≡ row_values a ++ map (output_row outputs) xs → length b ≡ length a + length xs
-  lengths a b xs e =
-      sym (values_long b) ∙ ap length e ∙ length-append (row_values a) (map (output_row outputs) xs)
-      ∙ ap (λ n. n + length (map (output_row outputs) xs)) (values_long a) ∙ ap (λ n. length a + n) (outputs_long xs)
+  due_long : (rows : List Row) (xs : List Stack) → length (row_values rows ++ map (output_row outputs) xs) ≡ length rows + length xs
+  due_long rows xs =
+      length-append (row_values rows) (map (output_row outputs) xs)
+      ∙ ap (λ n. n + length (map (output_row outputs) xs)) (values_long rows) ∙ ap (λ n. length rows + n) (outputs_long xs)
 
-  pub further : (a b c : List Row) (xs ys : List Stack) (all : Bool) → Collects outputs limit a b xs true → Collects outputs limit b c ys all
-      → Collects outputs limit a c (xs ++ ys) all
-  further a b c xs ys true first second = (
-    second.0 ∙ ap (λ l. l ++ map (output_row outputs) ys) first.0 ∙ append_assoc (row_values a) (map (output_row outputs) xs) (map (output_row outputs) ys)
-        ∙ ap (λ l. row_values a ++ l) (sym (map-append (output_row outputs) xs ys)),
-    λ h. second.1 (first.1 h),
-  )
-  further a b c xs ys false first second = omega (arith, second, lengths a b xs first.0, length-append xs ys)
+  pub stays : (out : List Row) (all : List Stack) → Advances outputs limit out out all all true
+  stays out all = (refl, λ h. h)
 
-  pub too_many : (a b : List Row) (xs ys : List Stack) → Collects outputs limit a b xs false → Collects outputs limit a b (xs ++ ys) false
-  too_many a b xs ys h = omega (arith, h, length-append xs ys)
+  -- one part after another
+  pub further : (a b c : List Row) (xs ys zs : List Stack) (all : Bool) → Advances outputs limit a b xs ys true → Advances outputs limit b c ys zs all
+      → Advances outputs limit a c xs zs all
+  further a b c xs ys zs true first second = (second.0 ∙ first.0, λ h. second.1 (first.1 h))
+  further a b c xs ys zs false first second = (let long : length b + length ys ≡ length a + length xs = sym (due_long b ys) ∙ ap length first.0 ∙ due_long a xs in
+      omega (arith, second, long))
+
+  -- before more stacks
+  pub beside : (a b : List Row) (xs ys more : List Stack) (all : Bool) → Advances outputs limit a b xs ys all → Advances outputs limit a b (xs ++ more) (ys ++ more) all
+  beside a b xs ys more true h = (longer b ys ∙ ap (λ l. l ++ map (output_row outputs) more) h.0 ∙ sym (longer a xs), h.1)
+    where
+      longer : (rows : List Row) (zs : List Stack) → row_values rows ++ map (output_row outputs) (zs ++ more)
+          ≡ (row_values rows ++ map (output_row outputs) zs) ++ map (output_row outputs) more
+      longer rows zs = ap (λ l. row_values rows ++ l) (map-append (output_row outputs) zs more)
+          ∙ sym (append_assoc (row_values rows) (map (output_row outputs) zs) (map (output_row outputs) more))
+  beside a b xs ys more false h = omega (arith, h, length-append xs more)
+
+  pub ended : (a b : List Row) (xs : List Stack) (all : Bool) → Advances outputs limit a b xs [] all → Collects outputs limit a b xs all
+  ended a b xs true h = (sym (append-nil (row_values b)) ∙ h.0, h.1)
+  ended a b xs false h = h
+
+  pub begun : (a b : List Row) (xs : List Stack) (all : Bool) → Collects outputs limit a b xs all → Advances outputs limit a b xs [] all
+  begun a b xs true h = (append-nil (row_values b) ∙ h.0, h.1)
+  begun a b xs false h = h
+
+  -- too many are too many, whatever is left
+  pub stopped : (a b : List Row) (xs ys zs : List Stack) (all : Bool) → all ≡ false → Advances outputs limit a b xs ys all → Advances outputs limit a b xs zs false
+  stopped a b xs ys zs true is h = absurd cc
+  stopped a b xs ys zs false is h = h
 
 -- ---- the rows of a group
 
@@ -117,21 +106,13 @@ module _ (instance : InstanceRows) (access : Access) (s : Stack) (group : List �
   passed : matches_row access s row ≡ false → rows_among instance access s (drop i group) ≡ later
   passed m = among_next instance access s group i h ∙ ap (λ b. cond b (row ∷ later) later) m
 
-  module _ (outputs : List Output) (limit : ℕ) (rest : Stack → List Stack) where
-    pub turn_taken : matches_row access s row ≡ true → (a b c : List Row) (all : Bool) → Collects outputs limit a b (rest (s ++ row ∷ [])) true
-        → Collects outputs limit b c (found_on rest s later) all → Collects outputs limit a c (found_on rest s (rows_among instance access s (drop i group))) all
-    turn_taken m a b c all first second =
-        subst (λ rows. Collects outputs limit a c (found_on rest s rows) all) (sym (taken m))
-        (further outputs limit a b c (rest (s ++ row ∷ [])) (found_on rest s later) all first second)
+  pub found_taken : (rest : Stack → List Stack) → matches_row access s row ≡ true
+      → found_on rest s (rows_among instance access s (drop i group)) ≡ rest (s ++ row ∷ []) ++ found_on rest s later
+  found_taken rest m = ap (found_on rest s) (taken m)
 
-    pub turn_over : matches_row access s row ≡ true → (a b : List Row) → Collects outputs limit a b (rest (s ++ row ∷ [])) false
-        → Collects outputs limit a b (found_on rest s (rows_among instance access s (drop i group))) false
-    turn_over m a b first =
-        subst (λ rows. Collects outputs limit a b (found_on rest s rows) false) (sym (taken m)) (too_many outputs limit a b (rest (s ++ row ∷ [])) (found_on rest s later) first)
-
-    pub turn_passed : matches_row access s row ≡ false → (a c : List Row) (all : Bool) → Collects outputs limit a c (found_on rest s later) all
-        → Collects outputs limit a c (found_on rest s (rows_among instance access s (drop i group))) all
-    turn_passed m a c all second = subst (λ rows. Collects outputs limit a c (found_on rest s rows) all) (sym (passed m)) second
+  pub found_passed : (rest : Stack → List Stack) → matches_row access s row ≡ false
+      → found_on rest s (rows_among instance access s (drop i group)) ≡ found_on rest s later
+  found_passed rest m = ap (found_on rest s) (passed m)
 
   module _ (rest : Stack → ℕ) where
     pub visits_taken : matches_row access s row ≡ true → visits_on rest s (rows_among instance access s (drop i group)) ≡ (1 + rest (s ++ row ∷ [])) + visits_on rest s later
@@ -145,15 +126,8 @@ pub seen : (access : Access) (t s : Stack) (lent table : TableRows) (place : ℕ
 seen access t s lent table place b c same rows is known =
     ap (λ x. matches_row access x (get_or table place [])) (sym same) ∙ ap (λ r. matches_row access t (get_or r place [])) (sym rows) ∙ sym is ∙ known
 
-pub steps_taken : (new at start before one behind whole : ℕ) → before ≡ one + behind → new ≤ at + one → at + before ≤ start + whole
-    → (new ≤ start + whole) × (new + behind ≤ start + whole)
-steps_taken new at start before one behind whole e h k = (omega arith, omega arith)
-
-pub some_copied : {X : Type 0} (o : Option (Bor X)) (b : Bor X) (x : X) (found : Option X) → option_copied o ≡ found → found ≡ Some x → o ≡ Some b → b.now ≡ x
-some_copied o b x found e f is = let same : Some b.now ≡ Some x = ap option_copied (sym is) ∙ e ∙ f in cc
-
-pub none_copied : {X : Type 0} (o : Option (Bor X)) (x : X) (found : Option X) → option_copied o ≡ found → found ≡ Some x → o ≡ None → ⊥
-none_copied {X} o x found e f is = let same : None ≡ Some x = ap option_copied (sym is) ∙ e ∙ f in cc
+pub same_some : {X : Type 0} (x y : X) (o : Option X) → o ≡ Some x → o ≡ Some y → x ≡ y
+same_some x y o e f = let same : Some x ≡ Some y = sym e ∙ f in cc
 
 -- ---- codes
 

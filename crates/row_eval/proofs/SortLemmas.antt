@@ -1,6 +1,7 @@
 -- Conditions that are sorted by the row that decides them.
 use Rattle.std.specs.Prelude.{flat_map}
-use Rattle.std.proofs.Common.{◌≡◌, ℕ, suc, zero, ◌+◌, ◌<◌, ◌≤◌, cond, ◌&&◌, Bool, true, false, List, [], ◌∷◌, ◌++◌, map, take, length, get_or, set, refl, sym, ap, subst, ◌∙◌, arith, Option, Some, None}
+use Rattle.std.proofs.Common.{◌≡◌, ℕ, suc, zero, ◌+◌, ◌<◌, ◌≤◌, cond, ◌&&◌, Bool, true, false, List, [], ◌∷◌, ◌++◌, map, take, length, get_or, set, refl, sym, ap, subst, ◌∙◌}
+use Rattle.std.proofs.Common.{arith, Option, Some, None}
 use Rattle.std.specs.Prelude.{bytes_eq, is_some, Result, Ok, Err, IfOk}
 use Rattle.std.specs.List.{list_all, AllByRecursion}
 use Rattle.std.proofs.lemmas.Bool.{and_parts}
@@ -27,7 +28,8 @@ use Rattle.row_eval.specs.declared.sorting.Sorted.{Sorted}
 use Rattle.row_eval.specs.Levels.{highest, level_step, level_in}
 use Rattle.row_eval.specs.Scopes.{Placed, AreBelow, slot_in_reach, leaf_at_slot, leaf_expr_of}
 use Rattle.row_eval.specs.Slots.{Stack, is_kept}
-use Rattle.row_eval.specs.Sorted.{each_passes, all_pass, AreDecidedAt, IsSorted, IsNarrow, AreNarrow, Narrows, Adds, AddsTest, SortsAll, bare_leg, table_place_of, leg_tables, leg_ways}
+use Rattle.row_eval.specs.Sorted.{each_passes, all_pass, AreDecidedAt, IsSorted, IsNarrow, AreNarrow, Narrows, Adds, AddsTest, SortsAll, bare_leg, table_place_of, leg_tables}
+use Rattle.row_eval.specs.Sorted.{leg_ways}
 use Rattle.row_eval.specs.Ways.{ways_at, AreWays}
 use Rattle.row_eval.specs.Plans.{plain_at}
 use Rattle.row_eval.proofs.TypedLemmas.{table_there}

@@ -22,15 +22,15 @@ share_of catalog instance = fold-Conjunct Share (Tuple → ℕ) share_step (read
 abbrev pub inner_reads : Catalog → InstanceRows → List Conjunct → Tuple → ℕ
 inner_reads catalog instance conjuncts tuple = sum (map (λ conjunct. (share_of catalog instance conjunct).reads tuple) conjuncts)
 
--- a stage that reads no more than the inner selects may
-abbrev pub IsEndWithin : Catalog → InstanceRows → List Conjunct → List Placed → Stage → Type 0
-IsEndWithin catalog instance conjuncts reach stage =
-    (s : Stack) → length s ≡ length reach → IsTyped catalog (tuple_of reach s) → visits instance stage s ≤ inner_reads catalog instance conjuncts (tuple_of reach s)
+-- stages that read no more than the inner selects may
+abbrev pub IsEndWithin : Catalog → InstanceRows → List Conjunct → List Placed → List Stage → Type 0
+IsEndWithin catalog instance conjuncts reach stages =
+    (s : Stack) → length s ≡ length reach → IsTyped catalog (tuple_of reach s) → visits instance stages s ≤ inner_reads catalog instance conjuncts (tuple_of reach s)
 
--- a stage that reads no more than the select may
-abbrev pub IsWithin : Catalog → InstanceRows → Select → List Placed → Stage → Type 0
-IsWithin catalog instance select outer stage =
-    (s : Stack) → length s ≡ length outer → IsTyped catalog (tuple_of outer s) → visits instance stage s ≤ select_reads catalog instance select (tuple_of outer s)
+-- stages that read no more than the select may
+abbrev pub IsWithin : Catalog → InstanceRows → Select → List Placed → List Stage → Type 0
+IsWithin catalog instance select outer stages =
+    (s : Stack) → length s ≡ length outer → IsTyped catalog (tuple_of outer s) → visits instance stages s ≤ select_reads catalog instance select (tuple_of outer s)
 
 -- the rows of some tables, each as often as it stands there
 abbrev pub rows_in : Catalog → InstanceRows → List (List ℕ) → ℕ

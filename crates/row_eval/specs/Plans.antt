@@ -35,10 +35,10 @@ is_absent_at catalog instance tuple (Conjunct-F.NotExists select) = has_none (se
 abbrev pub all_absent : Catalog → InstanceRows → List Conjunct → Tuple → Bool
 all_absent catalog instance conjuncts tuple = list_all (λ conjunct. is_absent_at catalog instance tuple (out-Conjunct conjunct)) conjuncts
 
--- a stage that finds a stack where each NOT EXISTS is True of it
-abbrev pub IsEndOf : Catalog → InstanceRows → List Conjunct → List Placed → Stage → Type 0
-IsEndOf catalog instance conjuncts reach stage =
-    (s : Stack) → length s ≡ length reach → IsTyped catalog (tuple_of reach s) → found instance stage s
+-- stages that find a stack where each NOT EXISTS is True of it
+abbrev pub IsEndOf : Catalog → InstanceRows → List Conjunct → List Placed → List Stage → Type 0
+IsEndOf catalog instance conjuncts reach stages =
+    (s : Stack) → length s ≡ length reach → IsTyped catalog (tuple_of reach s) → found instance stages s
     ≡ cond (all_absent catalog instance conjuncts (tuple_of reach s)) (s ∷ []) []
 
 -- the tuples of a select under an outer one of which its conditions are True
@@ -47,8 +47,8 @@ kept_by catalog instance select outer =
     filter (select_holds catalog (record { columns = select.columns; from = select.from; conjuncts = map (conjunct_holds catalog instance) select.conjuncts }))
     (tuples_under catalog instance select.from outer)
 
--- a stage that finds the rows of these tuples on top of those in reach
-abbrev pub IsPlanOf : Catalog → InstanceRows → Select → List Placed → Stage → Type 0
-IsPlanOf catalog instance select outer stage =
-    (s : Stack) → length s ≡ length outer → IsTyped catalog (tuple_of outer s) → map (tuple_of (reach_under select.from outer)) (found instance stage s)
+-- stages that find the rows of these tuples on top of those in reach
+abbrev pub IsPlanOf : Catalog → InstanceRows → Select → List Placed → List Stage → Type 0
+IsPlanOf catalog instance select outer stages =
+    (s : Stack) → length s ≡ length outer → IsTyped catalog (tuple_of outer s) → map (tuple_of (reach_under select.from outer)) (found instance stages s)
     ≡ kept_by catalog instance select (tuple_of outer s)

@@ -2,8 +2,6 @@
 use Rattle.std.specs.Prelude.{◌≡◌, ℕ, suc, ◌==◌, ◌<◌, Bool, true, false, cond, List, [], ◌∷◌, ◌++◌, map, length, Option, Some, None, slice_get, nat_eq, nat_lt}
 use Rattle.std.specs.Option.{option_map_or}
 use Rattle.std.specs.HashMap.{HashMap, get}
-use Rattle.std.specs.declared.vec.Vec.{Vec}
-use Rattle.std.specs.declared.alloc.Global.{Global}
 use Rattle.std.specs.List.{fold, list_any, AllByRecursion}
 use Rattle.std.specs.Hash as fed
 use Rattle.std.specs.Hash.FoldHasher as folding
@@ -52,8 +50,8 @@ is_code code None = false
 is_code code (Some other) = other == code
 
 -- the places under a code
-abbrev pub group_in : {S : Type 0} → HashMap ℕ (Vec ℕ Global) S → ℕ → List ℕ
-group_in groups code = option_map_or (λ group. group.items) (get nat_eq groups code) []
+abbrev pub group_in : {S : Type 0} → HashMap ℕ (List ℕ) S → ℕ → List ℕ
+group_in groups code = option_map_or (λ places. places) (get nat_eq groups code) []
 
 -- the places of the rows that pass the test, the first row at a given place
 abbrev pub places_from : (RowValues → Bool) → ℕ → TableRows → List ℕ

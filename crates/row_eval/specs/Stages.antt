@@ -1,7 +1,9 @@
--- What stages of an evaluation find: the stacks of rows that pass each of them, and how many rows are read on the way.
+-- What stages of an evaluation find: the stacks of rows that pass each of them, and how many rows are read on the way. Of a list of stages the last
+-- one is done first.
 use Rattle.std.specs.Prelude.{◌≡◌, ℕ, ◌+◌, ◌<◌, ◌≤◌, Bool, true, false, cond, List, [], ◌∷◌, ◌++◌, map, flat_map, sum, length}
 use Rattle.std.specs.List.{list_all}
 use Rattle.pgq_base.specs.Instances.{RowValues, TableRows, InstanceRows}
+use Rattle.expr_tree.specs.Leaves.{joined}
 use Rattle.expr_tree.specs.Meaning.{value_in}
 use Rattle.sql_algebra.specs.Meaning.{has_none}
 use Rattle.row_eval.specs.declared.frame.Condition.{Condition}
@@ -23,35 +25,55 @@ found_on rest stack rows = flat_map (λ row. rest (stack ++ row ∷ [])) rows
 abbrev pub visits_on : (Stack → ℕ) → Stack → TableRows → ℕ
 visits_on rest stack rows = sum (map (λ row. 1 + rest (stack ++ row ∷ [])) rows)
 
-abbrev pub found_step : InstanceRows → Stage-F (Stack → List Stack) → Stack → List Stack
-found_step instance (Stage-F.Keep conditions rest) stack = cond (all_kept conditions stack) (rest stack) []
-found_step instance (Stage-F.Join access rest) stack = found_on rest stack (rows_given instance access stack)
-found_step instance (Stage-F.Absent inner rest) stack = cond (has_none (inner stack)) (rest stack) []
-found_step instance Stage-F.Done stack = stack ∷ []
+-- what the stages make of an end, the first of the list the last one that is done
+abbrev pub in_turn : {X : Type 0} → List (X → X) → X → X
+in_turn [] end = end
+in_turn (stage ∷ stages) end = in_turn stages (stage end)
+
+-- the stack is found
+abbrev pub itself : Stack → List Stack
+itself stack = stack ∷ []
+
+abbrev pub no_visit : Stack → ℕ
+no_visit stack = 0
+
+abbrev pub found_step : InstanceRows → Stage-F ((Stack → List Stack) → Stack → List Stack) → (Stack → List Stack) → Stack → List Stack
+found_step instance (Stage-F.Keep conditions) rest stack = cond (all_kept conditions stack) (rest stack) []
+found_step instance (Stage-F.Join access) rest stack = found_on rest stack (rows_given instance access stack)
+found_step instance (Stage-F.Absent inner) rest stack = cond (has_none (in_turn inner itself stack)) (rest stack) []
+
+-- what is found by a stage before others, of which is given what they find
+abbrev pub found_by : InstanceRows → Stage → (Stack → List Stack) → Stack → List Stack
+found_by instance = fold-Stage ((Stack → List Stack) → Stack → List Stack) (found_step instance)
 
 -- the stacks that pass
-abbrev pub found : InstanceRows → Stage → Stack → List Stack
-found instance = fold-Stage (Stack → List Stack) (found_step instance)
+abbrev pub found : InstanceRows → List Stage → Stack → List Stack
+found instance stages = in_turn (map (found_by instance) stages) itself
 
-abbrev pub visits_step : InstanceRows → Stage-F (Stack → ℕ) → Stack → ℕ
-visits_step instance (Stage-F.Keep conditions rest) stack = cond (all_kept conditions stack) (rest stack) 0
-visits_step instance (Stage-F.Join access rest) stack = visits_on rest stack (rows_given instance access stack)
-visits_step instance (Stage-F.Absent inner rest) stack = inner stack + rest stack
-visits_step instance Stage-F.Done stack = 0
+abbrev pub visits_step : InstanceRows → Stage-F ((Stack → ℕ) → Stack → ℕ) → (Stack → ℕ) → Stack → ℕ
+visits_step instance (Stage-F.Keep conditions) rest stack = cond (all_kept conditions stack) (rest stack) 0
+visits_step instance (Stage-F.Join access) rest stack = visits_on rest stack (rows_given instance access stack)
+visits_step instance (Stage-F.Absent inner) rest stack = in_turn inner no_visit stack + rest stack
+
+abbrev pub visits_by : InstanceRows → Stage → (Stack → ℕ) → Stack → ℕ
+visits_by instance = fold-Stage ((Stack → ℕ) → Stack → ℕ) (visits_step instance)
 
 -- no more rows than these are read
-abbrev pub visits : InstanceRows → Stage → Stack → ℕ
-visits instance = fold-Stage (Stack → ℕ) (visits_step instance)
+abbrev pub visits : InstanceRows → List Stage → Stack → ℕ
+visits instance stages = in_turn (map (visits_by instance) stages) no_visit
 
 abbrev pub accesses_step : Stage-F (List Access) → List Access
-accesses_step (Stage-F.Keep conditions rest) = rest
-accesses_step (Stage-F.Join access rest) = access ∷ rest
-accesses_step (Stage-F.Absent inner rest) = inner ++ rest
-accesses_step Stage-F.Done = []
+accesses_step (Stage-F.Keep conditions) = []
+accesses_step (Stage-F.Join access) = access ∷ []
+accesses_step (Stage-F.Absent inner) = joined inner
 
 -- the accesses of a stage
-abbrev pub accesses : Stage → List Access
-accesses = fold-Stage (List Access) accesses_step
+abbrev pub accesses_of : Stage → List Access
+accesses_of = fold-Stage (List Access) accesses_step
+
+-- the accesses of stages
+abbrev pub accesses : List Stage → List Access
+accesses stages = joined (map accesses_of stages)
 
 -- the row of the outputs' values
 abbrev pub output_row : List Output → Stack → RowValues

@@ -1,5 +1,6 @@
 ghost use Rattle.std.specs.Prelude.{◌≡◌};
 ghost use Rattle.pgq_base.specs.Values.{owned};
+ghost use Rattle.pgq_base.specs.declared.value.Value.TheVariants.{Text as TextValue};
 ghost use Rattle.row_eval.specs.Slots.{lent_rows};
 ghost use Rattle.row_eval.specs.Access.{column_value, agree, matches_row, ties_agree, some_agree, pairs_agree};
 
@@ -51,6 +52,13 @@ pub fn value_of_own(row: &Row, own: Own) -> ValueRef<'_>
     fitting(own.class, value_in_row(row, own.column))
 }
 
+// Equality of texts compares their lengths first.
+fn are_same(a: &str, b: &str) -> bool
+    ensures { result ≡ agree (TextValue a.now) (TextValue b.now) }
+{
+    a == b
+}
+
 // Whether two values are known and equal.
 fn agreeing(a: ValueRef<'_>, b: ValueRef<'_>) -> bool
     ensures { result ≡ agree (owned a.entry) (owned b.entry) }
@@ -68,9 +76,7 @@ fn agreeing(a: ValueRef<'_>, b: ValueRef<'_>) -> bool
             compare_sizes(a.unscaled, a.scale, b.unscaled, b.scale) == Ordering::Equal
         }
         (ValueRef::Date(a), ValueRef::Date(b)) => a.day.cmp(&b.day) == Ordering::Equal,
-        (ValueRef::Text(a), ValueRef::Text(b)) => {
-            a.as_bytes().cmp(b.as_bytes()) == Ordering::Equal
-        }
+        (ValueRef::Text(a), ValueRef::Text(b)) => are_same(a, b),
         _ => false,
     }
 }

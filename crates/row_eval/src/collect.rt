@@ -1,29 +1,21 @@
-ghost use Rattle.std.specs.Prelude.{◌≡◌, ◌+◌, ◌≤◌, ◌<◌, ◌++◌, ◌∷◌, [], ℕ, IfOk, OnOk, length, slice_index, slice_index_or};
+ghost use Rattle.std.specs.Prelude.{◌≡◌, ◌+◌, ◌≤◌, ◌<◌, ◌++◌, ◌∷◌, [], true, ◌&&◌, not, is_some, IsSome, IfOk, OnOk, length, take, slice_index_or};
 ghost use Rattle.pgq_base.specs.Instances.{rows_at};
 ghost use Rattle.sql_algebra.specs.Meaning.{has_none};
 ghost use Rattle.row_eval.specs.Slots.{lent_rows};
-ghost use Rattle.row_eval.specs.Access.{matches_row, rows_given, rows_among};
-ghost use Rattle.row_eval.specs.Served.{AllServed, IsServed};
-ghost use Rattle.row_eval.specs.Stages.{found, found_on, visits, visits_on, accesses, Collects};
+ghost use Rattle.row_eval.specs.Access.{matches_row};
+ghost use Rattle.row_eval.specs.Served.{AllServed};
+ghost use Rattle.row_eval.specs.Stages.{found, visits, accesses, Collects};
+ghost use Rattle.row_eval.specs.Branches.{reached, found_from, visits_from, found_reached, visits_reached, found_tried, visits_tried, Advances, IsRight, IsRightReached, IsTopped};
 
 use crate::access::{Access, matches};
+use crate::branch::{Branch, Search, opened};
 use crate::frame::{Output, all_hold, output_row_of};
-use crate::index::{Index, index_at};
-use crate::places::{places_by_any, places_by_several};
 use crate::source::RowSource;
 use crate::stage::Stage;
 use crate::steps::Steps;
 use pgq_base::{List, NoMemory, Row};
 use std::alloc::Global;
 use std::sync::ledger::Ledger;
-
-/// What stages are run over: the rows and the indexes of the accesses.
-#[derive(Drop)]
-pub struct Search<'a, 'r, R: RowSource> {
-    pub alloc: Global,
-    pub rows: &'r R,
-    pub indexes: &'a [Index<'r>],
-}
 
 /// What is put out for each stack that is found, and for how many at most.
 #[derive(Clone, Copy)]
@@ -32,143 +24,225 @@ pub struct Aim<'a> {
     pub limit: usize,
 }
 
-/// Runs a stage. It answers whether the outputs of all that it finds were put out; else these are too many.
+/// Where stages led to: whether there were not too many stacks, and the branch of the next join, if one was reached.
+#[derive(Drop)]
+struct Entered<'a, 'r> {
+    pub all: bool,
+    pub further: Option<Branch<'a, 'r>>,
+}
+
+impl Entered<'_, '_> {
+    /// Whether the next row is to be tried.
+    fn is_done(&self) -> bool
+        ensures { result ≡ (self.now.all && not (is_some self.now.further)) }
+    {
+        self.all && self.further.is_none()
+    }
+}
+
+/// Where the rows of a branch led to, and which place is next.
+#[derive(Drop)]
+struct Tried<'a, 'r> {
+    pub next: usize,
+    pub entered: Entered<'a, 'r>,
+}
+
+/// Runs stages. It answers whether the outputs of all that they find were put out; else these are too many.
 #[cycle(run)]
-pub fn run<'r, R: RowSource, L: Ledger>(
-    stage: &Stage,
-    search: &Search<'_, 'r, R>,
+pub fn run<'a, 'r, R: RowSource, L: Ledger>(
+    stages: &'a [Stage],
+    search: &Search<'a, 'r, R>,
     aim: &Aim<'_>,
     stack: &mut Vec<&'r Row>,
     out: &mut List<Row>,
     steps: &mut Steps<L>,
 ) -> Result<bool, NoMemory>
-    requires { AllServed (R.tables search.now.rows.now) search.now.indexes.now (accesses stage.now) }
-    ensures collects { IfOk result (Collects aim.now.outputs.now aim.now.limit out.old out.new (found (R.tables search.now.rows.now) stage.now (lent_rows stack.old.items))) }
+    requires { AllServed (R.tables search.now.rows.now) search.now.indexes.now (accesses stages.now) }
+    ensures collects { IfOk result (Collects aim.now.outputs.now aim.now.limit out.old out.new (found (R.tables search.now.rows.now) stages.now (lent_rows stack.old.items))) }
     ensures stack { OnOk result (stack.new.items ≡ stack.old.items) }
-    ensures steps { steps.new ≤ steps.old + visits (R.tables search.now.rows.now) stage.now (lent_rows stack.old.items) }
+    ensures steps { steps.new ≤ steps.old + visits (R.tables search.now.rows.now) stages.now (lent_rows stack.old.items) }
 {
-    match stage {
-        Stage::Done => put_out(search.alloc, stack.as_slice(), aim, out),
-        Stage::Keep(conditions, rest) => {
-            if !all_hold(conditions.as_slice(), stack.as_slice()) {
-                return Ok(true);
-            }
-            run(rest.get(), search, aim, stack, out, steps)
-        }
-        Stage::Join(access, rest) => run_join(rest.get(), access, search, aim, stack, out, steps),
-        Stage::Absent(inner, rest) => {
-            if !is_absent(inner.get(), search, stack, steps)? {
-                return Ok(true);
-            }
-            run(rest.get(), search, aim, stack, out, steps)
-        }
+    let entered = enter(stages, stages.len(), search, aim, stack, out, steps)?;
+    let Entered { all, further } = entered;
+    match further {
+        None => Ok(all),
+        Some(branch) => run_branches(stages, branch, search, aim, stack, out, steps),
     }
 }
 
-/// Whether a stage finds nothing. It stops at the first stack.
+/// Whether stages find nothing. It stops at the first stack.
 #[cycle(run)]
-fn is_absent<'r, R: RowSource, L: Ledger>(
-    stage: &Stage,
-    search: &Search<'_, 'r, R>,
+fn is_absent<'a, 'r, R: RowSource, L: Ledger>(
+    stages: &'a [Stage],
+    search: &Search<'a, 'r, R>,
     stack: &mut Vec<&'r Row>,
     steps: &mut Steps<L>,
 ) -> Result<bool, NoMemory>
-    requires { AllServed (R.tables search.now.rows.now) search.now.indexes.now (accesses stage.now) }
-    ensures none { IfOk result (λ b. b ≡ has_none (found (R.tables search.now.rows.now) stage.now (lent_rows stack.old.items))) }
+    requires { AllServed (R.tables search.now.rows.now) search.now.indexes.now (accesses stages.now) }
+    ensures none { IfOk result (λ b. b ≡ has_none (found (R.tables search.now.rows.now) stages.now (lent_rows stack.old.items))) }
     ensures stack { OnOk result (stack.new.items ≡ stack.old.items) }
-    ensures steps { steps.new ≤ steps.old + visits (R.tables search.now.rows.now) stage.now (lent_rows stack.old.items) }
+    ensures steps { steps.new ≤ steps.old + visits (R.tables search.now.rows.now) stages.now (lent_rows stack.old.items) }
 {
     let mut none = List::new(search.alloc);
     let aim = Aim {
         outputs: &[],
         limit: 0,
     };
-    run(stage, search, &aim, stack, &mut none, steps)
+    run(stages, search, &aim, stack, &mut none, steps)
 }
 
-/// Runs a stage with each row that an access gives on top.
+/// Runs stages from a join on, and each join that this leads to. The last branch is tried first.
 #[cycle(run)]
-fn run_join<'r, R: RowSource, L: Ledger>(
-    rest: &Stage,
-    access: &Access,
-    search: &Search<'_, 'r, R>,
+fn run_branches<'a, 'r, R: RowSource, L: Ledger>(
+    stages: &'a [Stage],
+    first: Branch<'a, 'r>,
+    search: &Search<'a, 'r, R>,
     aim: &Aim<'_>,
     stack: &mut Vec<&'r Row>,
     out: &mut List<Row>,
     steps: &mut Steps<L>,
 ) -> Result<bool, NoMemory>
-    requires here { IsServed (R.tables search.now.rows.now) search.now.indexes.now access.now }
-    requires rest { AllServed (R.tables search.now.rows.now) search.now.indexes.now (accesses rest.now) }
-    ensures collects { IfOk result (Collects aim.now.outputs.now aim.now.limit out.old out.new (found_on (found (R.tables search.now.rows.now) rest.now) (lent_rows stack.old.items) (rows_given (R.tables search.now.rows.now) access.now (lent_rows stack.old.items)))) }
+    requires right { IsRight (R.tables search.now.rows.now) stages.now first }
+    requires served { AllServed (R.tables search.now.rows.now) search.now.indexes.now (accesses stages.now) }
+    ensures collects { IfOk result (Collects aim.now.outputs.now aim.now.limit out.old out.new (found_from (R.tables search.now.rows.now) stages.now first.entry (lent_rows stack.old.items))) }
     ensures stack { OnOk result (stack.new.items ≡ stack.old.items) }
-    ensures steps { steps.new ≤ steps.old + visits_on (visits (R.tables search.now.rows.now) rest.now) (lent_rows stack.old.items) (rows_given (R.tables search.now.rows.now) access.now (lent_rows stack.old.items)) }
+    ensures steps { steps.new ≤ steps.old + visits_from (R.tables search.now.rows.now) stages.now first.entry (lent_rows stack.old.items) }
 {
-    let Some(index) = index_at(search.indexes, access.index) else {
-        return Ok(true);
-    };
-    let keys = access.keys.as_slice();
-    let groups = index.groups.as_slice();
-    let lent = index.rows.as_slice();
-    let several = places_by_several(search.alloc, keys, groups, lent, stack.as_slice())?;
-    let places = places_by_any(keys, groups, lent, stack.as_slice(), several.as_slice());
-    run_group(rest, access, places, lent, search, aim, stack, out, steps)
-}
-
-/// Runs a stage with each row on top that has one of the places and agrees with the stack.
-#[cycle(run)]
-fn run_group<'r, R: RowSource, L: Ledger>(
-    rest: &Stage,
-    access: &Access,
-    group: &[usize],
-    lent: &[&'r Row],
-    search: &Search<'_, 'r, R>,
-    aim: &Aim<'_>,
-    stack: &mut Vec<&'r Row>,
-    out: &mut List<Row>,
-    steps: &mut Steps<L>,
-) -> Result<bool, NoMemory>
-    requires table { access.now.table < length (R.tables search.now.rows.now) }
-    requires lent { lent_rows lent.now ≡ rows_at (R.tables search.now.rows.now) access.now.table }
-    requires below { (j : ℕ) → j < length group.now → slice_index group.now j < length (rows_at (R.tables search.now.rows.now) access.now.table) }
-    requires rest { AllServed (R.tables search.now.rows.now) search.now.indexes.now (accesses rest.now) }
-    ensures collects { IfOk result (Collects aim.now.outputs.now aim.now.limit out.old out.new (found_on (found (R.tables search.now.rows.now) rest.now) (lent_rows stack.old.items) (rows_among (R.tables search.now.rows.now) access.now (lent_rows stack.old.items) group.now))) }
-    ensures stack { OnOk result (stack.new.items ≡ stack.old.items) }
-    ensures steps { steps.new ≤ steps.old + visits_on (visits (R.tables search.now.rows.now) rest.now) (lent_rows stack.old.items) (rows_among (R.tables search.now.rows.now) access.now (lent_rows stack.old.items) group.now) }
-{
-    for place in group {
-        if agrees_at(access, lent, *place, stack.as_slice()) {
-            if !run_row(rest, access.table, *place, search, aim, stack, out, steps)? {
-                return Ok(false);
-            }
+    let base = stack.len();
+    let mut branches = Vec::new(search.alloc);
+    branches.push(first)?;
+    'branches: while let Some(branch) = branches.pop() {
+        stack.truncate(base + branches.len());
+        let tried = run_rows(stages, &branch, search, aim, stack, out, steps)?;
+        let Tried { next, entered } = tried;
+        let Entered { all, further } = entered;
+        if !all {
+            stack.truncate(base);
+            return Ok(false);
+        }
+        if let Some(further) = further {
+            branches.push(branch.resumed(next))?;
+            branches.push(further)?;
         }
     }
+    stack.truncate(base);
     Ok(true)
 }
 
-/// Runs a stage with one row on top.
+/// Tries the rows of a branch, up to the first one that leads to a further join.
 #[cycle(run)]
-fn run_row<'r, R: RowSource, L: Ledger>(
-    rest: &Stage,
-    table: u32,
-    place: usize,
-    search: &Search<'_, 'r, R>,
+fn run_rows<'a, 'r, R: RowSource, L: Ledger>(
+    stages: &'a [Stage],
+    branch: &Branch<'a, 'r>,
+    search: &Search<'a, 'r, R>,
     aim: &Aim<'_>,
     stack: &mut Vec<&'r Row>,
     out: &mut List<Row>,
     steps: &mut Steps<L>,
-) -> Result<bool, NoMemory>
-    requires table { table < length (R.tables search.now.rows.now) }
-    requires place { place < length (rows_at (R.tables search.now.rows.now) table) }
-    requires rest { AllServed (R.tables search.now.rows.now) search.now.indexes.now (accesses rest.now) }
-    ensures collects { IfOk result (Collects aim.now.outputs.now aim.now.limit out.old out.new (found (R.tables search.now.rows.now) rest.now (lent_rows stack.old.items ++ slice_index_or (rows_at (R.tables search.now.rows.now) table) place [] ∷ []))) }
-    ensures stack { OnOk result (stack.new.items ≡ stack.old.items) }
-    ensures steps { steps.new ≤ steps.old + (1 + visits (R.tables search.now.rows.now) rest.now (lent_rows stack.old.items ++ slice_index_or (rows_at (R.tables search.now.rows.now) table) place [] ∷ [])) }
+) -> Result<Tried<'a, 'r>, NoMemory>
+    requires right { IsRight (R.tables search.now.rows.now) stages.now branch.now }
+    requires served { AllServed (R.tables search.now.rows.now) search.now.indexes.now (accesses stages.now) }
+    ensures collects { IfOk result (λ t. Advances aim.now.outputs.now aim.now.limit out.old out.new (found_from (R.tables search.now.rows.now) stages.now branch.now (lent_rows stack.old.items)) (found_tried (R.tables search.now.rows.now) stages.now branch.now t.next t.entered.further (lent_rows stack.old.items) (lent_rows stack.new.items)) t.entered.all) }
+    ensures stack { IfOk result (λ t. IsTopped t.entered.further stack.old.items stack.new.items) }
+    ensures steps { steps.new ≤ steps.old + visits_from (R.tables search.now.rows.now) stages.now branch.now (lent_rows stack.old.items) }
+    ensures left { IfOk result (λ t. steps.new + visits_tried (R.tables search.now.rows.now) stages.now branch.now t.next t.entered.further (lent_rows stack.old.items) (lent_rows stack.new.items) ≤ steps.old + visits_from (R.tables search.now.rows.now) stages.now branch.now (lent_rows stack.old.items)) }
+    ensures fewer { IfOk result (λ t. reached t.entered.further + visits_tried (R.tables search.now.rows.now) stages.now branch.now t.next t.entered.further (lent_rows stack.old.items) (lent_rows stack.new.items) ≤ visits_from (R.tables search.now.rows.now) stages.now branch.now (lent_rows stack.old.items)) }
+    ensures right { IfOk result (λ t. IsRightReached (R.tables search.now.rows.now) stages.now t.entered.further) }
 {
-    let row = search.rows.row(table, place, steps);
+    let places = branch.places.as_slice();
+    let mut next = branch.next;
+    while next < places.len() {
+        let place = places[next];
+        next += 1;
+        if agrees_at(branch.access, branch.rows, place, stack.as_slice()) {
+            let entered = enter_row(stages, branch, place, search, aim, stack, out, steps)?;
+            if !entered.is_done() {
+                return Ok(Tried { next, entered });
+            }
+        }
+    }
+    let entered = Entered {
+        all: true,
+        further: None,
+    };
+    Ok(Tried { next, entered })
+}
+
+/// Does the stages behind a join with one row on top. The row stays where a further join is reached.
+#[cycle(run)]
+fn enter_row<'a, 'r, R: RowSource, L: Ledger>(
+    stages: &'a [Stage],
+    branch: &Branch<'a, 'r>,
+    place: usize,
+    search: &Search<'a, 'r, R>,
+    aim: &Aim<'_>,
+    stack: &mut Vec<&'r Row>,
+    out: &mut List<Row>,
+    steps: &mut Steps<L>,
+) -> Result<Entered<'a, 'r>, NoMemory>
+    requires right { IsRight (R.tables search.now.rows.now) stages.now branch.now }
+    requires place { place < length (rows_at (R.tables search.now.rows.now) branch.now.access.now.table) }
+    requires served { AllServed (R.tables search.now.rows.now) search.now.indexes.now (accesses stages.now) }
+    ensures collects { IfOk result (λ e. Advances aim.now.outputs.now aim.now.limit out.old out.new (found (R.tables search.now.rows.now) (take branch.now.behind stages.now) (lent_rows stack.old.items ++ slice_index_or (rows_at (R.tables search.now.rows.now) branch.now.access.now.table) place [] ∷ [])) (found_reached (R.tables search.now.rows.now) stages.now e.further (lent_rows stack.new.items)) e.all) }
+    ensures stack { IfOk result (λ e. IsTopped e.further stack.old.items stack.new.items) }
+    ensures steps { steps.new ≤ steps.old + (1 + visits (R.tables search.now.rows.now) (take branch.now.behind stages.now) (lent_rows stack.old.items ++ slice_index_or (rows_at (R.tables search.now.rows.now) branch.now.access.now.table) place [] ∷ [])) }
+    ensures left { IfOk result (λ e. steps.new + visits_reached (R.tables search.now.rows.now) stages.now e.further (lent_rows stack.new.items) ≤ steps.old + (1 + visits (R.tables search.now.rows.now) (take branch.now.behind stages.now) (lent_rows stack.old.items ++ slice_index_or (rows_at (R.tables search.now.rows.now) branch.now.access.now.table) place [] ∷ []))) }
+    ensures lower { IfOk result (λ e. visits_reached (R.tables search.now.rows.now) stages.now e.further (lent_rows stack.new.items) ≤ visits (R.tables search.now.rows.now) (take branch.now.behind stages.now) (lent_rows stack.old.items ++ slice_index_or (rows_at (R.tables search.now.rows.now) branch.now.access.now.table) place [] ∷ [])) }
+    ensures right { IfOk result (λ e. IsRightReached (R.tables search.now.rows.now) stages.now e.further) }
+{
+    let row = search.rows.row(branch.access.table, place, steps);
     stack.push(row)?;
-    let all = run(rest, search, aim, stack, out, steps)?;
-    stack.pop();
-    Ok(all)
+    let entered = enter(stages, branch.behind, search, aim, stack, out, steps)?;
+    if entered.further.is_none() {
+        stack.pop();
+    }
+    Ok(entered)
+}
+
+/// Does so many of the stages, up to the next join. Where there is none, the output of the stack is put out.
+#[cycle(run)]
+fn enter<'a, 'r, R: RowSource, L: Ledger>(
+    stages: &'a [Stage],
+    count: usize,
+    search: &Search<'a, 'r, R>,
+    aim: &Aim<'_>,
+    stack: &mut Vec<&'r Row>,
+    out: &mut List<Row>,
+    steps: &mut Steps<L>,
+) -> Result<Entered<'a, 'r>, NoMemory>
+    requires count { count ≤ length stages.now }
+    requires served { AllServed (R.tables search.now.rows.now) search.now.indexes.now (accesses stages.now) }
+    ensures collects { IfOk result (λ e. Advances aim.now.outputs.now aim.now.limit out.old out.new (found (R.tables search.now.rows.now) (take count stages.now) (lent_rows stack.old.items)) (found_reached (R.tables search.now.rows.now) stages.now e.further (lent_rows stack.old.items)) e.all) }
+    ensures stack { OnOk result (stack.new.items ≡ stack.old.items) }
+    ensures steps { steps.new ≤ steps.old + visits (R.tables search.now.rows.now) (take count stages.now) (lent_rows stack.old.items) }
+    ensures left { IfOk result (λ e. steps.new + visits_reached (R.tables search.now.rows.now) stages.now e.further (lent_rows stack.old.items) ≤ steps.old + visits (R.tables search.now.rows.now) (take count stages.now) (lent_rows stack.old.items)) }
+    ensures lower { IfOk result (λ e. visits_reached (R.tables search.now.rows.now) stages.now e.further (lent_rows stack.old.items) ≤ visits (R.tables search.now.rows.now) (take count stages.now) (lent_rows stack.old.items)) }
+    ensures all { IfOk result (λ e. IsSome e.further → e.all ≡ true) }
+    ensures right { IfOk result (λ e. IsRightReached (R.tables search.now.rows.now) stages.now e.further) }
+{
+    let mut left = count;
+    while left > 0 {
+        left -= 1;
+        let passed = match &stages[left] {
+            Stage::Keep(conditions) => all_hold(conditions.as_slice(), stack.as_slice()),
+            Stage::Absent(inner) => is_absent(inner.as_slice(), search, stack, steps)?,
+            Stage::Join(access) => {
+                let branch = opened(search, access, left, stack.as_slice())?;
+                return Ok(Entered {
+                    all: true,
+                    further: Some(branch),
+                });
+            }
+        };
+        if !passed {
+            return Ok(Entered {
+                all: true,
+                further: None,
+            });
+        }
+    }
+    let all = put_out(search.alloc, stack.as_slice(), aim, out)?;
+    Ok(Entered { all, further: None })
 }
 
 /// Whether the row at a place agrees with the stack.

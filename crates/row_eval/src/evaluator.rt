@@ -11,7 +11,8 @@ ghost use Rattle.row_eval.specs.Typed.{MeetsTypes};
 ghost use Rattle.row_eval.specs.Answered.{AreOutputsOf, Answers};
 ghost use Rattle.row_eval.specs.Plans.{items_in};
 
-use crate::collect::{Aim, Search, run};
+use crate::branch::Search;
+use crate::collect::{Aim, run};
 use crate::frame::Output;
 use crate::planner::{Planner, plan};
 use crate::reach::reach_of;
@@ -117,5 +118,12 @@ fn run_select<R: RowSource, L: Ledger>(
         limit: MOST_ROWS,
     };
     let mut stack = Vec::new(planner.alloc);
-    run(&planned.stage, &search, &aim, &mut stack, out, steps)
+    run(
+        planned.stages.as_slice(),
+        &search,
+        &aim,
+        &mut stack,
+        out,
+        steps,
+    )
 }

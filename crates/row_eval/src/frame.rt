@@ -124,11 +124,13 @@ pub fn all_hold(conditions: &[Condition], rows: &[&Row]) -> bool
 pub fn output_row_of(alloc: Global, outputs: &[Output], rows: &[&Row]) -> Result<Row, NoMemory>
     ensures { IfOk result (λ r. r.values ≡ map (λ o. value_in (slot_value (lent_rows rows.now)) o.expr) outputs.now) }
 {
-    let mut values = List::new(alloc);
+    let mut values = Vec::with_capacity(alloc, outputs.len())?;
     for output in outputs {
         values.push(owned_value(alloc, value_of(&output.expr, &Frame { rows }))?)?;
     }
-    Ok(Row { values })
+    Ok(Row {
+        values: List::from_vec(values),
+    })
 }
 
 fn owned_value(alloc: Global, value: ValueRef<'_>) -> Result<Value, NoMemory>

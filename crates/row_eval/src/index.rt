@@ -9,6 +9,7 @@ ghost use Rattle.row_eval.specs.Served.{writes, row_code, stack_code, group_in, 
 
 use crate::access::{Key, Tied, value_of_own};
 use crate::frame::slot_in;
+use crate::group::Group;
 use crate::source::RowSource;
 use crate::steps::Steps;
 use pgq_base::{NoMemory, Row, ValueRef};
@@ -20,7 +21,7 @@ use std::sync::ledger::Ledger;
 /// The places of a table's rows by a code of the columns that are tied.
 #[derive(Drop)]
 pub struct Groups {
-    pub places: HashMap<u64, Vec<usize>>,
+    pub places: HashMap<u64, Group>,
 }
 
 /// The rows of a table, and their groups by each key.
@@ -75,14 +76,18 @@ pub fn code_of_stack(tied: &[Tied], stack: &[&Row]) -> Option<u64>
 
 // Puts a place under its code, if it has one.
 fn add_place(
-    groups: &mut HashMap<u64, Vec<usize>>,
+    alloc: Global,
+    groups: &mut HashMap<u64, Group>,
     code: Option<u64>,
     place: usize,
 ) -> Result<(), NoMemory>
     ensures { OnOk result ((q : ℕ) → group_in groups.new q ≡ cond (is_code q code) (group_in groups.old q ++ place ∷ []) (group_in groups.old q)) }
 {
     if let Some(code) = code {
-        groups.entry(code)?.or_default().push(place)?;
+        groups
+            .entry(code)?
+            .or_insert(Group::new())
+            .push(alloc, place)?;
     }
     Ok(())
 }
@@ -98,8 +103,9 @@ fn rows_read<'r, R: RowSource, L: Ledger>(
     ensures lent { IfOk result (λ lent. lent_rows lent.items ≡ rows_at (R.tables rows.now) table) }
     ensures steps { steps.new ≤ steps.old + length (rows_at (R.tables rows.now) table) }
 {
-    let mut lent = Vec::new(alloc);
-    for place in 0..rows.count(table) {
+    let count = rows.count(table);
+    let mut lent = Vec::with_capacity(alloc, count)?;
+    for place in 0..count {
         lent.push(rows.row(table, place, steps))?;
     }
     Ok(lent)
@@ -108,9 +114,10 @@ fn rows_read<'r, R: RowSource, L: Ledger>(
 fn groups_of(alloc: Global, tied: &[Tied], lent: &[&Row]) -> Result<Groups, NoMemory>
     ensures { IfOk result (IsGroupsOf tied.now (lent_rows lent.now)) }
 {
-    let mut places = HashMap::new(alloc);
+    let mut places = HashMap::with_capacity(alloc, lent.len())?;
     for place in 0..lent.len() {
-        add_place(&mut places, code_of_row(tied, lent[place]), place)?;
+        let code = code_of_row(tied, lent[place]);
+        add_place(alloc, &mut places, code, place)?;
     }
     Ok(Groups { places })
 }
@@ -166,8 +173,9 @@ impl Groups {
 }
 
 /// The index of a number.
-pub fn index_at<'a, 'r>(indexes: &'a [Index<'r>], number: usize) -> Option<&'a Index<'r>>
-    ensures { option_copied result ≡ slice_get indexes.now number }
+pub fn index_at<'a, 'r>(indexes: &'a [Index<'r>], number: usize) -> &'a Index<'r>
+    requires { number < length indexes.now }
+    ensures { slice_get indexes.now number ≡ Some result.now }
 {
-    indexes.get(number)
+    &indexes[number]
 }

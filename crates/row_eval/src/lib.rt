@@ -2,10 +2,12 @@
 #![tactic(auto)]
 
 mod access;
+mod branch;
 mod chains;
 mod collect;
 mod evaluator;
 mod frame;
+mod group;
 mod index;
 mod joins;
 mod legs;
@@ -19,8 +21,6 @@ mod sorting;
 mod source;
 mod stage;
 mod steps;
-#[cfg(test)]
-mod tests;
 mod ties;
 mod ways;
 

@@ -1,5 +1,6 @@
 ghost use Rattle.std.specs.Prelude.{◌≡◌, ◌<◌, ◌≤◌, ◌++◌, ◌∷◌, [], cond, nat_lt, true, false, IfOk, OnOk, length, slice_index, slice_index_or as get_or};
 ghost use Rattle.row_eval.specs.Slots.{lent_rows};
+ghost use Rattle.row_eval.specs.Branches.{places_in};
 ghost use Rattle.row_eval.specs.Served.{is_candidate, merge, places_from, AreGroupsOf};
 
 use crate::access::Key;
@@ -34,7 +35,7 @@ fn push_smaller(all: &mut Vec<usize>, y: usize, x: usize) -> Result<(), NoMemory
 fn merged(alloc: Global, a: &[usize], b: &[usize]) -> Result<Vec<usize>, NoMemory>
     ensures { IfOk result (λ all. all.items ≡ merge a.now b.now) }
 {
-    let mut all = Vec::new(alloc);
+    let mut all = Vec::with_capacity(alloc, a.len().saturating_add(b.len()))?;
     let mut i = 0;
     let mut j = 0;
     while i < a.len() {
@@ -78,38 +79,44 @@ fn merged_places(
     Ok(all)
 }
 
-/// Nothing where there is one key, else the places, in order, of the rows that by one of them have the code of these.
-pub fn places_by_several(
-    alloc: Global,
-    keys: &[Key],
-    groups: &[Groups],
-    lent: &[&Row],
-    stack: &[&Row],
-) -> Result<Vec<usize>, NoMemory>
-    requires { AreGroupsOf keys.now (lent_rows lent.now) groups.now }
-    ensures { IfOk result (λ all. (length keys.now ≡ 1 → ⊥) → all.items ≡ places_from (is_candidate keys.now (lent_rows stack.now)) 0 (lent_rows lent.now)) }
-{
-    if keys.len() == 1 {
-        return Ok(Vec::new(alloc));
-    }
-    merged_places(alloc, keys, groups, lent, stack)
+/// Places of rows: those that were merged, and where there are none those of a group, which is lent.
+#[derive(Drop)]
+pub struct Places<'a> {
+    pub group: &'a [usize],
+    pub merged: Vec<usize>,
 }
 
-/// The places, in order, of the rows that by one of the keys have the code of these. Those of one key need not be copied.
+impl<'a> Places<'a> {
+    /// The places, in order.
+    pub fn as_slice(&self) -> &[usize]
+        ensures { result.now ≡ places_in self.now }
+    {
+        if self.merged.is_empty() {
+            self.group
+        } else {
+            self.merged.as_slice()
+        }
+    }
+}
+
+/// The places, in order, of the rows that by one of the keys have the code of these. Those of one key are not copied.
 pub fn places_by_any<'a>(
+    alloc: Global,
     keys: &[Key],
     groups: &'a [Groups],
     lent: &[&Row],
     stack: &[&Row],
-    several: &'a [usize],
-) -> &'a [usize]
-    requires groups { AreGroupsOf keys.now (lent_rows lent.now) groups.now }
-    requires several { (length keys.now ≡ 1 → ⊥) → several.now ≡ places_from (is_candidate keys.now (lent_rows stack.now)) 0 (lent_rows lent.now) }
-    ensures { result.now ≡ places_from (is_candidate keys.now (lent_rows stack.now)) 0 (lent_rows lent.now) }
+) -> Result<Places<'a>, NoMemory>
+    requires { AreGroupsOf keys.now (lent_rows lent.now) groups.now }
+    ensures { IfOk result (λ places. places_in places ≡ places_from (is_candidate keys.now (lent_rows stack.now)) 0 (lent_rows lent.now)) }
 {
     if keys.len() == 1 {
-        groups_at(groups, 0).places_of(keys[0].tied.as_slice(), stack, lent)
-    } else {
-        several
+        let group = groups_at(groups, 0).places_of(keys[0].tied.as_slice(), stack, lent);
+        return Ok(Places {
+            group,
+            merged: Vec::new(alloc),
+        });
     }
+    let merged = merged_places(alloc, keys, groups, lent, stack)?;
+    Ok(Places { group: &[], merged })
 }

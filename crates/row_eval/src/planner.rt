@@ -3,7 +3,6 @@ ghost use Rattle.std.specs.List.{list_all};
 ghost use Rattle.sql_algebra.specs.Soundness.{select_is_sound};
 ghost use Rattle.sql_algebra.specs.Reaches.{conjunct_is_sound};
 ghost use Rattle.row_eval.specs.declared.access.Access.{Access as Reading};
-ghost use Rattle.row_eval.specs.declared.stage.Stage.TheVariants.{Absent};
 ghost use Rattle.row_eval.specs.Scopes.{placed, reach_under, AreBelow};
 ghost use Rattle.row_eval.specs.Served.{AllServed};
 ghost use Rattle.row_eval.specs.Stages.{accesses};
@@ -14,17 +13,16 @@ ghost use Rattle.row_eval.specs.Bounds.{IsEndWithin, IsWithin, rows_in, inner_ta
 
 use crate::chains::join_all;
 use crate::index::Index;
-use crate::joins::{Planned, kept_by};
+use crate::joins::Planned;
 use crate::reach::reach_of;
 use crate::scope::Reached;
 use crate::sorting::{Sorted, sort_conditions};
 use crate::source::RowSource;
-use crate::stage::Stage;
+use crate::stage::{Stage, before};
 use crate::steps::Steps;
 use graph_ast::Catalog;
-use pgq_base::NoMemory;
+use pgq_base::{List, NoMemory};
 use sql_algebra::{Conjunct, Select};
-use sqlite_items::Boxed;
 use std::alloc::Global;
 use std::sync::ledger::Ledger;
 
@@ -49,27 +47,21 @@ fn plan_joins<'r, R: RowSource, L: Ledger>(
     requires below { AreBelow (length outer.now) (placed outer.now) }
     requires meets { MeetsTypes planner.now.catalog.now (R.tables planner.now.rows.now) }
     requires reach { placed reach.now ≡ reach_under select.now.from (placed outer.now) }
-    requires end { IsEndOf planner.now.catalog.now (R.tables planner.now.rows.now) select.now.conjuncts (placed reach.now) end.stage }
-    requires within { IsEndWithin planner.now.catalog.now (R.tables planner.now.rows.now) select.now.conjuncts (placed reach.now) end.stage }
-    requires served { AllServed (R.tables planner.now.rows.now) end.indexes.items (accesses end.stage) }
-    ensures found { IfOk result (λ p. IsPlanOf planner.now.catalog.now (R.tables planner.now.rows.now) select.now (placed outer.now) p.stage) }
-    ensures within { IfOk result (λ p. IsWithin planner.now.catalog.now (R.tables planner.now.rows.now) select.now (placed outer.now) p.stage) }
+    requires end { IsEndOf planner.now.catalog.now (R.tables planner.now.rows.now) select.now.conjuncts (placed reach.now) end.stages }
+    requires within { IsEndWithin planner.now.catalog.now (R.tables planner.now.rows.now) select.now.conjuncts (placed reach.now) end.stages }
+    requires served { AllServed (R.tables planner.now.rows.now) end.indexes.items (accesses end.stages) }
+    ensures found { IfOk result (λ p. IsPlanOf planner.now.catalog.now (R.tables planner.now.rows.now) select.now (placed outer.now) p.stages) }
+    ensures within { IfOk result (λ p. IsWithin planner.now.catalog.now (R.tables planner.now.rows.now) select.now (placed outer.now) p.stages) }
     ensures steps { steps.new ≤ steps.old + rows_in planner.now.catalog.now (R.tables planner.now.rows.now) (item_tables select.now.from) }
-    ensures served { IfOk result (λ p. AllServed (R.tables planner.now.rows.now) p.indexes.items (accesses p.stage)) }
+    ensures served { IfOk result (λ p. AllServed (R.tables planner.now.rows.now) p.indexes.items (accesses p.stages)) }
     ensures kept { IfOk result (λ p. (all : Seq Reading) → AllServed (R.tables planner.now.rows.now) end.entry.indexes.items all → AllServed (R.tables planner.now.rows.now) p.indexes.items all) }
 {
     let sorted = sort_conditions(planner.alloc, planner.catalog, reach, outer.len(), select)?;
     let Sorted { first, legs } = sorted;
     let joined = join_all(planner.alloc, planner.rows, end, legs, outer.len(), steps)?;
-    let Planned { stage, indexes } = joined;
-    let stage = kept_by(planner.alloc, first, stage)?;
-    Ok(Planned { stage, indexes })
-}
-
-fn absent(alloc: Global, inner: Stage, rest: Stage) -> Result<Stage, NoMemory>
-    ensures { IfOk result (λ e. e ≡ Absent inner rest) }
-{
-    Ok(Stage::Absent(Boxed::new(alloc, inner)?, Boxed::new(alloc, rest)?))
+    let Planned { stages, indexes } = joined;
+    let stages = before(Stage::Keep(first), stages)?;
+    Ok(Planned { stages, indexes })
 }
 
 /// The stages of a select within the reach of the selects around it, and the indexes of its accesses behind those that are there.
@@ -84,10 +76,10 @@ pub fn plan<'q, 'r, R: RowSource, L: Ledger>(
     requires sound { select_is_sound planner.now.catalog.now select.now (items_in (placed outer.now)) ≡ true }
     requires below { AreBelow (length outer.now) (placed outer.now) }
     requires meets { MeetsTypes planner.now.catalog.now (R.tables planner.now.rows.now) }
-    ensures found { IfOk result (λ p. IsPlanOf planner.now.catalog.now (R.tables planner.now.rows.now) select.now (placed outer.now) p.stage) }
-    ensures within { IfOk result (λ p. IsWithin planner.now.catalog.now (R.tables planner.now.rows.now) select.now (placed outer.now) p.stage) }
+    ensures found { IfOk result (λ p. IsPlanOf planner.now.catalog.now (R.tables planner.now.rows.now) select.now (placed outer.now) p.stages) }
+    ensures within { IfOk result (λ p. IsWithin planner.now.catalog.now (R.tables planner.now.rows.now) select.now (placed outer.now) p.stages) }
     ensures steps { steps.new ≤ steps.old + rows_in planner.now.catalog.now (R.tables planner.now.rows.now) (tables_in select.now) }
-    ensures served { IfOk result (λ p. AllServed (R.tables planner.now.rows.now) p.indexes.items (accesses p.stage)) }
+    ensures served { IfOk result (λ p. AllServed (R.tables planner.now.rows.now) p.indexes.items (accesses p.stages)) }
     ensures kept { IfOk result (λ p. (all : Seq Reading) → AllServed (R.tables planner.now.rows.now) indexes.entry.items all → AllServed (R.tables planner.now.rows.now) p.indexes.items all) }
 {
     let reach = reach_of(planner.alloc, select.from.as_slice(), outer)?;
@@ -108,13 +100,13 @@ fn plan_absent<'q, 'r, R: RowSource, L: Ledger>(
     requires sound { list_all (λ conjunct. conjunct (items_in (placed reach.now))) (map (conjunct_is_sound planner.now.catalog.now) conjuncts.now) ≡ true }
     requires below { AreBelow (length reach.now) (placed reach.now) }
     requires meets { MeetsTypes planner.now.catalog.now (R.tables planner.now.rows.now) }
-    ensures end { IfOk result (λ p. IsEndOf planner.now.catalog.now (R.tables planner.now.rows.now) conjuncts.now (placed reach.now) p.stage) }
-    ensures within { IfOk result (λ p. IsEndWithin planner.now.catalog.now (R.tables planner.now.rows.now) conjuncts.now (placed reach.now) p.stage) }
+    ensures end { IfOk result (λ p. IsEndOf planner.now.catalog.now (R.tables planner.now.rows.now) conjuncts.now (placed reach.now) p.stages) }
+    ensures within { IfOk result (λ p. IsEndWithin planner.now.catalog.now (R.tables planner.now.rows.now) conjuncts.now (placed reach.now) p.stages) }
     ensures steps { steps.new ≤ steps.old + rows_in planner.now.catalog.now (R.tables planner.now.rows.now) (inner_tables conjuncts.now) }
-    ensures served { IfOk result (λ p. AllServed (R.tables planner.now.rows.now) p.indexes.items (accesses p.stage)) }
+    ensures served { IfOk result (λ p. AllServed (R.tables planner.now.rows.now) p.indexes.items (accesses p.stages)) }
     ensures kept { IfOk result (λ p. (all : Seq Reading) → AllServed (R.tables planner.now.rows.now) indexes.entry.items all → AllServed (R.tables planner.now.rows.now) p.indexes.items all) }
 {
-    let mut end = Stage::Done;
+    let mut end = List::new(planner.alloc);
     let mut indexes = indexes;
     for conjunct in conjuncts {
         match conjunct {
@@ -122,12 +114,12 @@ fn plan_absent<'q, 'r, R: RowSource, L: Ledger>(
             Conjunct::NotExists(select) => {
                 let inner = plan(select.get(), planner, reach, indexes, steps)?;
                 indexes = inner.indexes;
-                end = absent(planner.alloc, inner.stage, end)?;
+                end = before(Stage::Absent(inner.stages), end)?;
             }
         }
     }
     Ok(Planned {
-        stage: end,
+        stages: end,
         indexes,
     })
 }

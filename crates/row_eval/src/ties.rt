@@ -3,7 +3,7 @@ ghost use Rattle.expr_tree.specs.declared.tree.Expr.{out-Expr};
 ghost use Rattle.pgq_base.specs.Instances.{RowValues};
 ghost use Rattle.row_eval.specs.Slots.{Stack};
 ghost use Rattle.row_eval.specs.Access.{matches_row, ties_agree, ways_agree, some_agree};
-ghost use Rattle.row_eval.specs.Ties.{slot_at, both_slots, slots_of, pair_holds, tie_holds, ties_hold, own_of, side_of, equalities_hold};
+ghost use Rattle.row_eval.specs.Ties.{slot_at, both_slots, slots_of, tied_sides, are_tied, pair_holds, tie_holds, ties_hold, untied, own_of, side_of, equalities_hold};
 
 use crate::access::{Access, Key, Own, Pair, Tied};
 use crate::frame::{Condition, Slot};
@@ -73,6 +73,44 @@ pub fn own(slot: Slot) -> Own
         column: slot.column,
         class: slot.class,
     }
+}
+
+fn are_sides_tied(a: Side, b: Side) -> bool
+    ensures { result ≡ tied_sides a b }
+{
+    match (a, b) {
+        (Side::Own, Side::Own) => true,
+        (Side::Own, Side::Earlier) => true,
+        (Side::Earlier, Side::Own) => true,
+        _ => false,
+    }
+}
+
+// Whether a condition ties the row at a place.
+fn is_tie(condition: &Expr<Slot>, place: usize) -> bool
+    ensures { result ≡ are_tied place (slots_of condition.now) }
+{
+    match equal_slots(condition) {
+        Some((a, b)) => are_sides_tied(side_at(a, place), side_at(b, place)),
+        None => false,
+    }
+}
+
+/// The tests that tie nothing of the row at a place. The others hold of each row that an access by them gives.
+pub fn untied_tests(
+    alloc: Global,
+    place: usize,
+    tests: List<Condition>,
+) -> Result<List<Condition>, NoMemory>
+    ensures { IfOk result (λ left. left ≡ untied place tests) }
+{
+    let mut left = List::new(alloc);
+    for test in tests.into_vec() {
+        if !is_tie(&test.expr, place) {
+            left.push(test)?;
+        }
+    }
+    Ok(left)
 }
 
 // Ties the row at a place by a condition, if it is an equality of two columns.

@@ -88,6 +88,9 @@ pub fn ways_of(alloc: Global, condition: &Expr<Slot>, place: usize) -> Result<Li
     }
 }
 
+/// By how many alternatives of a condition rows are looked up. Of more of them each row would be looked up by hundreds of keys.
+pub const MOST_WAYS: usize = 16;
+
 // The later place of two columns of different rows that are equal where an expression is True.
 fn add_place(expr: &Expr<Slot>, places: Vec<usize>) -> Result<Vec<usize>, NoMemory> {
     let mut places = places;
@@ -107,11 +110,14 @@ fn places_among(alloc: Global, members: &[Expr<Slot>]) -> Result<Vec<usize>, NoM
     Ok(places)
 }
 
-/// The places whose rows a condition may tie: those that its first alternative ties.
+/// The places whose rows a condition may tie: those that its first alternative ties; none where there are too many alternatives.
 pub fn places_tied(alloc: Global, condition: &Expr<Slot>) -> Result<Vec<usize>, NoMemory> {
     let Expr::Any(alternatives) = condition else {
         return Ok(Vec::new(alloc));
     };
+    if alternatives.as_slice().len() > MOST_WAYS {
+        return Ok(Vec::new(alloc));
+    }
     match alternatives.as_slice().first() {
         Some(Expr::All(members)) => places_among(alloc, members.as_slice()),
         Some(alternative) => add_place(alternative, Vec::new(alloc)),

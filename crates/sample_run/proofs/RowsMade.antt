@@ -21,7 +21,8 @@ flat_range f a zero = append-nil (f a) ∙ ap f (omega arith)
 flat_range f a (suc n) =
     let there : a + 1 + n ≡ a + suc n = omega arith in
     let longer : suc n + 1 ≡ suc (n + 1) = omega arith in
-    ap (λ k. flat_map f (range_with_len a k)) longer ∙ ap (λ l. f a ++ l) (flat_range f (a + 1) n) ∙ sym (append_assoc (f a) (flat_map f (range_with_len (a + 1) n)) (f (a + 1 + n)))
+    ap (λ k. flat_map f (range_with_len a k)) longer ∙ ap (λ l. f a ++ l) (flat_range f (a + 1) n)
+    ∙ sym (append_assoc (f a) (flat_map f (range_with_len (a + 1) n)) (f (a + 1 + n)))
     ∙ ap (λ k. (f a ++ flat_map f (range_with_len (a + 1) n)) ++ f k) there
 
 -- the rows of one more person

@@ -1,5 +1,6 @@
 -- The tables of the generated run fit its schema.
-use Rattle.std.proofs.Common.{◌≡◌, ℕ, zero, suc, ◌+◌, ◌-◌, ◌*◌, ◌%◌, ◌<◌, ◌≤◌, inl, inr, Bool, true, false, not, pos, negsuc, List, [], ◌∷◌, ◌++◌, map, flat_map, length, Result, Ok, Err, IfOk, refl, sym, ap, ◌∙◌, subst, arith}
+use Rattle.std.proofs.Common.{◌≡◌, ℕ, zero, suc, ◌+◌, ◌-◌, ◌*◌, ◌%◌, ◌<◌, ◌≤◌, inl, inr, Bool, true, false, not, pos, negsuc, List, [], ◌∷◌, ◌++◌, map, flat_map, length, Result}
+use Rattle.std.proofs.Common.{Ok, Err, IfOk, refl, sym, ap, ◌∙◌, subst, arith}
 use Rattle.std.specs.Prelude.{codes, decimal}
 use Rattle.std.specs.Str.{chars, IsAscii}
 use Rattle.std.proofs.Math.Nat.{mod-lt}
@@ -100,7 +101,10 @@ edge_typed n i j some most high few =
     let other : ((j + 2) * i + j) % n < n = mod-lt ((j + 2) * i + j) (omega arith) in
     let year : (i + j) % 25 < 25 = mod-lt (i + j) (omega arith) in (
       number (codes "ID") true (edge i j) (omega arith),
-      (number (codes "A") false i (omega arith), (number (codes "B") false (((j + 2) * i + j) % n + 1) (omega arith), (number (codes "SINCE") false (2000 + (i + j) % 25) (omega arith), tt))),
+      (
+        number (codes "A") false i (omega arith),
+        (number (codes "B") false (((j + 2) * i + j) % n + 1) (omega arith), (number (codes "SINCE") false (2000 + (i + j) % 25) (omega arith), tt)),
+      ),
     )
 
 -- a row is one of the three that begin at its person

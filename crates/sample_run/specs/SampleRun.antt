@@ -47,7 +47,8 @@ sample_rows n = person_rows n ∷ knows_rows n ∷ []
 
 unfoldable pub sample_schema : List ℕ
 sample_schema =
-    codes "CREATE TABLE person (id INTEGER PRIMARY KEY, name VARCHAR(20), age INTEGER);\n" ++ codes "CREATE TABLE knows (id INTEGER PRIMARY KEY, a INTEGER REFERENCES person (id),\n"
+    codes "CREATE TABLE person (id INTEGER PRIMARY KEY, name VARCHAR(20), age INTEGER);\n"
+    ++ codes "CREATE TABLE knows (id INTEGER PRIMARY KEY, a INTEGER REFERENCES person (id),\n"
     ++ codes "  b INTEGER REFERENCES person (id), since INTEGER);\n" ++ codes "CREATE PROPERTY GRAPH g VERTEX TABLES (person)\n"
     ++ codes "  EDGE TABLES (knows SOURCE KEY (a) REFERENCES person (id)\n" ++ codes "                     DESTINATION KEY (b) REFERENCES person (id));\n"
 

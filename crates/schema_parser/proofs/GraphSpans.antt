@@ -9,7 +9,8 @@ use Rattle.graph_ast.specs.declared.schema.SchemaTree.{SchemaTree}
 use Rattle.graph_ast.specs.declared.schema.KeyDef.{KeyDef}
 use Rattle.graph_ast.specs.declared.schema.EdgeDef.{EdgeDef}
 use Rattle.graph_ast.specs.declared.schema.PropertiesDef.{PropertiesDef}
-use Rattle.graph_ast.specs.Spans.{LiesIn, NameHas, NamesHave, GivenNameHas, KeyHas, PropertyHas, PropertiesHave, LabelHas, ElementHas, EndHas, EdgeHas, GraphHas, StatementHas, EachSpanHas}
+use Rattle.graph_ast.specs.Spans.{LiesIn, NameHas, NamesHave, GivenNameHas, KeyHas, PropertyHas, PropertiesHave, LabelHas, ElementHas, EndHas, EdgeHas, GraphHas, StatementHas}
+use Rattle.graph_ast.specs.Spans.{EachSpanHas}
 use Rattle.token_grammar.specs.Rules.Rule.{one}
 use Rattle.token_marks.specs.declared.mark.Mark.TheVariants as m
 use Rattle.token_reading.specs.Tokens.{named}
@@ -17,7 +18,9 @@ use Rattle.schema_parser.specs.declared.labels.Heading.{Heading}
 use Rattle.schema_parser.specs.declared.elements.Head.{Head}
 use Rattle.schema_parser.specs.declared.elements.Ends.{Ends}
 use Rattle.schema_parser.specs.Tables.{Inside}
-use Rattle.schema_parser.specs.Graphs.{property, exception, chosen, properties, all_unless, heading, label, OfElement, labels_of, label_list, written_labels, labels, key, alias, alias_or, head, own_name, element_of, element, is_end_name, end as an_end, ends, edge, vertices, edges, edges_or_none, graph, statement as a_statement, schema}
+use Rattle.schema_parser.specs.Graphs.{property, exception, chosen, properties, all_unless, heading, label, OfElement, labels_of, label_list, written_labels, labels, key, alias}
+use Rattle.schema_parser.specs.Graphs.{alias_or, head, own_name, element_of, element, is_end_name, end as an_end, ends, edge, vertices, edges, edges_or_none, graph}
+use Rattle.schema_parser.specs.Graphs.{statement as a_statement, schema}
 use Rattle.schema_parser.specs.Outcomes.{SpellsSchema}
 use Rattle.schema_parser.proofs.Placed.{IfGiven, Gives, any_gives, one_gives, mapped_gives, seq_gives, either_gives, opt_gives, many_gives, list_gives, trailing_gives}
 use Rattle.schema_parser.proofs.TypeSpans.{two_lie}
@@ -143,11 +146,13 @@ module _ (end : ℕ) where
 
   vertices_lie : Gives end vertices (AllByRecursion (ElementHas Here))
   unfolding vertices
-  vertices_lie = mapped_gives end (seq_gives end (any_gives end) (seq_gives end (any_gives end) (parens_give end Inside.element_list (AllByRecursion (ElementHas Here)) (list_gives end element_lies)))) (λ a h. h.1.1)
+  vertices_lie = mapped_gives end (seq_gives end (any_gives end)
+      (seq_gives end (any_gives end) (parens_give end Inside.element_list (AllByRecursion (ElementHas Here)) (list_gives end element_lies)))) (λ a h. h.1.1)
 
   edges_lie : Gives end edges (AllByRecursion (EdgeHas Here))
   unfolding edges
-  edges_lie = mapped_gives end (seq_gives end (any_gives end) (seq_gives end (any_gives end) (parens_give end Inside.edge_list (AllByRecursion (EdgeHas Here)) (list_gives end edge_lies)))) (λ a h. h.1.1)
+  edges_lie = mapped_gives end (seq_gives end (any_gives end)
+      (seq_gives end (any_gives end) (parens_give end Inside.edge_list (AllByRecursion (EdgeHas Here)) (list_gives end edge_lies)))) (λ a h. h.1.1)
 
   or_none_lie : (es : Option (List EdgeDef)) → IfGiven (AllByRecursion (EdgeHas Here)) es → AllByRecursion (EdgeHas Here) (edges_or_none es)
   or_none_lie None h = tt
@@ -155,12 +160,14 @@ module _ (end : ℕ) where
 
   graph_lies : Gives end graph (GraphHas Here)
   unfolding graph
-  graph_lies = mapped_gives end (seq_gives end (any_gives end) (seq_gives end (any_gives end) (seq_gives end (name_lies end) (seq_gives end vertices_lie (opt_gives end edges_lie)))))
+  graph_lies = mapped_gives end (seq_gives end (any_gives end)
+      (seq_gives end (any_gives end) (seq_gives end (name_lies end) (seq_gives end vertices_lie (opt_gives end edges_lie)))))
       (λ a h. record { name = h.1.1.0; vertices = h.1.1.1.0; edges = or_none_lie a.1.1.1.1 h.1.1.1.1 })
 
   statement_lies : Gives end a_statement (StatementHas Here)
   unfolding a_statement
-  statement_lies = mapped_gives end (seq_gives end (any_gives end) (either_gives end (mapped_gives end (table_lies end) (λ a h. h)) (mapped_gives end graph_lies (λ a h. h)))) (λ a h. h.1)
+  statement_lies = mapped_gives end (seq_gives end (any_gives end) (either_gives end (mapped_gives end (table_lies end) (λ a h. h)) (mapped_gives end graph_lies (λ a h. h))))
+      (λ a h. h.1)
 
   schema_lies : Gives end schema (EachSpanHas Here)
   unfolding schema

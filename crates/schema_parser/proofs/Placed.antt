@@ -40,8 +40,10 @@ module _ (end : ℕ) where
 
   pub seq_gives : {A B : Type 0} {r : Production A} {s : Production B} {P : A → Type 0} {Q : B → Type 0} → Gives r P → Gives s Q → Gives (seq r s) (λ d. P d.0 × Q d.1)
   seq_gives {A} {B} {r} {s} g h = record {
-    holds = λ n d i.
-        (g.holds n d.0 (left_part end ((text_of n r).tokens d.0) ((text_of n s).tokens d.1) i), h.holds n d.1 (right_part end ((text_of n r).tokens d.0) ((text_of n s).tokens d.1) i));
+    holds = λ n d i. (
+      g.holds n d.0 (left_part end ((text_of n r).tokens d.0) ((text_of n s).tokens d.1) i),
+      h.holds n d.1 (right_part end ((text_of n r).tokens d.0) ((text_of n s).tokens d.1) i),
+    );
   }
 
   pub either_gives : {V : Type 0} {r s : Production V} {P : V → Type 0} → Gives r P → Gives s P → Gives (either r s) P
@@ -60,16 +62,21 @@ module _ (end : ℕ) where
   many_gives {V} {r} {P} g = record { holds = at } where
     at : (n : ℕ) (ds : (text_of n (many r)).Phrase) → EndBy end ((text_of n (many r)).tokens ds) → AllByRecursion P ((text_of n (many r)).value ds)
     at n [] i = tt
-    at n (d ∷ ds) i =
-        (g.holds n d (left_part end ((text_of n r).tokens d) (many_tokens ((text_of n r).tokens) ds) i), at n ds (right_part end ((text_of n r).tokens d) (many_tokens ((text_of n r).tokens) ds) i))
+    at n (d ∷ ds) i = (
+      g.holds n d (left_part end ((text_of n r).tokens d) (many_tokens ((text_of n r).tokens) ds) i),
+      at n ds (right_part end ((text_of n r).tokens d) (many_tokens ((text_of n r).tokens) ds) i),
+    )
 
   pub list_gives : {V : Type 0} {r : Production V} {P : V → Type 0} → Gives r P → Gives (list r) (AllByRecursion P)
   list_gives g = mapped_gives (seq_gives g (many_gives (mapped_gives (seq_gives any_gives g) (λ a h. h.1)))) (λ a h. h)
 
   pub trailing_gives : {V : Type 0} {k : ℕ} {r : Production V} {P : V → Type 0} → Gives r P → Gives (trailing k r) (AllByRecursion P)
-  trailing_gives {V} {k} {r} {P} g = record { holds = λ n d i. all n d.0 (left_part end ((followed n k r).tokens d.0) (opt_tokens (λ (e : (one_of (is class k) the_token).Phrase). e.0 ∷ []) d.1) i) } where
-    all : (n : ℕ) (ds : (followed n k r).Phrase) → EndBy end ((followed n k r).tokens ds) → AllByRecursion P (map (λ p. p.1) ((followed n k r).value ds))
-    all n [] i = tt
-    all n (d ∷ ds) i =
-        let here = left_part end (d.0.0 ∷ [] ++ (text_of n r).tokens d.1) ((followed n k r).tokens ds) i in
-        (g.holds n d.1 (right_part end (d.0.0 ∷ []) ((text_of n r).tokens d.1) here), all n ds (right_part end (d.0.0 ∷ [] ++ (text_of n r).tokens d.1) ((followed n k r).tokens ds) i))
+  trailing_gives {V} {k} {r} {P} g = record
+      { holds = λ n d i. all n d.0 (left_part end ((followed n k r).tokens d.0) (opt_tokens (λ (e : (one_of (is class k) the_token).Phrase). e.0 ∷ []) d.1) i) } where
+        all : (n : ℕ) (ds : (followed n k r).Phrase) → EndBy end ((followed n k r).tokens ds) → AllByRecursion P (map (λ p. p.1) ((followed n k r).value ds))
+        all n [] i = tt
+        all n (d ∷ ds) i =
+            let here = left_part end (d.0.0 ∷ [] ++ (text_of n r).tokens d.1) ((followed n k r).tokens ds) i in (
+              g.holds n d.1 (right_part end (d.0.0 ∷ []) ((text_of n r).tokens d.1) here),
+              all n ds (right_part end (d.0.0 ∷ [] ++ (text_of n r).tokens d.1) ((followed n k r).tokens ds) i),
+            )

@@ -22,7 +22,8 @@ use Rattle.token_marks.specs.Marks.{number_of}
 use Rattle.token_reading.specs.Tokens.{class}
 use Rattle.schema_parser.specs.declared.tables.TableItem.{TableItem}
 use Rattle.schema_parser.specs.declared.tables.TableItem.TheVariants as item
-use Rattle.schema_parser.specs.Tables.{Inside, Held, Production, AtColumn, parens, list, name, columns, column_rule_kind, column_rule, column_rules, column, table_rule_kind, table_rule, table_item, table, columns_among, rules_among}
+use Rattle.schema_parser.specs.Tables.{Inside, Held, Production, AtColumn, parens, list, name, columns, column_rule_kind, column_rule, column_rules, column, table_rule_kind}
+use Rattle.schema_parser.specs.Tables.{table_rule, table_item, table, columns_among, rules_among}
 use Rattle.schema_parser.specs.Graphs.{inside, key, head, element, end, ends, edge, vertices, edges, graph, statement as a_statement, schema}
 use Rattle.schema_parser.specs.Outcomes.{SpellsSchema}
 
@@ -49,7 +50,8 @@ pairs_long : {A B D : Type 0} (f : D → A) (g : D → B) (ds : List D) → leng
 pairs_long f g [] = refl
 pairs_long f g (d ∷ ds) = ap suc (pairs_long f g ds)
 
-pairs_all : {A B D : Type 0} (f : D → A) (g : D → B) (P : B → Type 0) (ds : List D) → ((d : D) → P (g d)) → AllByRecursion P (map (λ (p : A × B). p.1) (map (λ (d : D). let p : A × B = (f d, g d) in p) ds))
+pairs_all : {A B D : Type 0} (f : D → A) (g : D → B) (P : B → Type 0) (ds : List D) → ((d : D) → P (g d))
+    → AllByRecursion P (map (λ (p : A × B). p.1) (map (λ (d : D). let p : A × B = (f d, g d) in p) ds))
 pairs_all f g P [] h = tt
 pairs_all f g P (d ∷ ds) h = (h d, pairs_all f g P ds h)
 
@@ -69,12 +71,14 @@ not_empty x xs = omega arith
 abbrev at : ℕ → {V : Type 0} → Production V → Grammar Token V
 at n r = grammar class inside n r
 
-parens_all : (n : ℕ) (k : Inside) (P : Held k → Type 0) → ((m : ℕ) (d : (at m (inside k)).Phrase) → P ((at m (inside k)).value d)) → (d : (at n (parens k)).Phrase) → P ((at n (parens k)).value d)
+parens_all : (n : ℕ) (k : Inside) (P : Held k → Type 0) → ((m : ℕ) (d : (at m (inside k)).Phrase) → P ((at m (inside k)).value d)) → (d : (at n (parens k)).Phrase)
+    → P ((at n (parens k)).value d)
 unfolding within
 parens_all zero k P h d = absurd d.1.0
 parens_all (suc n) k P h d = h n d.1.0
 
-list_all_of : {V : Type 0} (n : ℕ) (r : Production V) (P : V → Type 0) → ((d : (at n r).Phrase) → P ((at n r).value d)) → (d : (at n (list r)).Phrase) → AllByRecursion P ((at n (list r)).value d)
+list_all_of : {V : Type 0} (n : ℕ) (r : Production V) (P : V → Type 0) → ((d : (at n r).Phrase) → P ((at n r).value d)) → (d : (at n (list r)).Phrase)
+    → AllByRecursion P ((at n (list r)).value d)
 list_all_of n r P h d = (h d.0, map_all (λ p. (at n r).value p.1) P d.1 (λ p. h p.1))
 
 list_some : {V : Type 0} (n : ℕ) (r : Production V) (d : (at n (list r)).Phrase) → IsNotEmpty ((at n (list r)).value d)
@@ -265,8 +269,10 @@ statements_few n d =
     let first : 1 ≤ length ((at n a_statement).tokens d.0) = statement_long n d.0 in
     let more : length d.1.0 ≤ length (many_tokens (tokens_of n) d.1.0) = many_long (tokens_of n) (tokens_of_long n) d.1.0 in
     let all : length (((at n schema).value d).statements) ≡ suc (length d.1.0) = ap suc (pairs_long (semicolon_of n) (statement_of n) d.1.0) in
-    let whole : length ((at n schema).tokens d) ≡ length ((at n a_statement).tokens d.0) + length ((at n (trailing (number_of m.Semicolon) a_statement)).tokens d.1) = length-append ((at n a_statement).tokens d.0) ((at n (trailing (number_of m.Semicolon) a_statement)).tokens d.1) in
-    let behind : length (many_tokens (tokens_of n) d.1.0) ≤ length ((at n (trailing (number_of m.Semicolon) a_statement)).tokens d.1) = omega (arith, length-append (many_tokens (tokens_of n) d.1.0) (opt_tokens (λ (e : (one (is class (number_of m.Semicolon)) the_token).Phrase). e.0 ∷ []) d.1.1)) in
+    let whole : length ((at n schema).tokens d) ≡ length ((at n a_statement).tokens d.0) + length ((at n (trailing (number_of m.Semicolon) a_statement)).tokens d.1)
+    = length-append ((at n a_statement).tokens d.0) ((at n (trailing (number_of m.Semicolon) a_statement)).tokens d.1) in
+    let behind : length (many_tokens (tokens_of n) d.1.0) ≤ length ((at n (trailing (number_of m.Semicolon) a_statement)).tokens d.1)
+    = omega (arith, length-append (many_tokens (tokens_of n) d.1.0) (opt_tokens (λ (e : (one (is class (number_of m.Semicolon)) the_token).Phrase). e.0 ∷ []) d.1.1)) in
     omega (arith, first, more, all, whole, behind)
 
 shape_of : (n : ℕ) (ts : List Token) (d : (at n schema).Phrase) → ts ≡ (at n schema).tokens d → length ts < 2 ^ 32 → HasShape ((at n schema).value d)

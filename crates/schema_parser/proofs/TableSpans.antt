@@ -10,7 +10,8 @@ use Rattle.token_marks.specs.declared.mark.Mark.TheVariants as m
 use Rattle.schema_parser.specs.declared.references.Target.{Target}
 use Rattle.schema_parser.specs.declared.tables.TableItem.{TableItem}
 use Rattle.schema_parser.specs.declared.tables.TableItem.TheVariants as item
-use Rattle.schema_parser.specs.Tables.{Inside, Held, AtColumn, the, parens, name, columns, listed, reference, column_rule_kind, column_rule, column_rules, rules_at, column, table_rule_kind, table_rule, table_item, table, columns_among, rules_among}
+use Rattle.schema_parser.specs.Tables.{Inside, Held, AtColumn, the, parens, name, columns, listed, reference, column_rule_kind, column_rule, column_rules, rules_at, column}
+use Rattle.schema_parser.specs.Tables.{table_rule_kind, table_rule, table_item, table, columns_among, rules_among}
 use Rattle.schema_parser.specs.Graphs.{inside}
 use Rattle.schema_parser.proofs.OrderedTokens.{EndBy, left_part, right_part}
 use Rattle.schema_parser.proofs.Placed.{text_of, IfGiven, Gives, any_gives, one_gives, mapped_gives, seq_gives, either_gives, opt_gives, many_gives, list_gives}
@@ -20,7 +21,8 @@ module _ (end : ℕ) where
   abbrev Here : Span → Type 0
   Here = LiesIn end
 
-  parens_at : (k : Inside) (P : Held k → Type 0) → Gives end (inside k) P → (n : ℕ) (d : (text_of n (parens k)).Phrase) → EndBy end ((text_of n (parens k)).tokens d) → P ((text_of n (parens k)).value d)
+  parens_at : (k : Inside) (P : Held k → Type 0) → Gives end (inside k) P → (n : ℕ) (d : (text_of n (parens k)).Phrase) → EndBy end ((text_of n (parens k)).tokens d)
+      → P ((text_of n (parens k)).value d)
   unfolding within
   parens_at k P g zero d i = absurd d.1.0
   parens_at k P g (suc n) d i =

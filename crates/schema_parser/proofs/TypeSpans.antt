@@ -18,13 +18,15 @@ record Reaches (at end to : ℕ) : Type 0 where
   within : to ≤ end
 
 -- behind words that may follow a place
-words_reach : (n at end to : ℕ) (ws : (text_of n (many word)).Phrase) → to ≤ at → AreInOrder at end ((text_of n (many word)).tokens ws) → Reaches to end (end_of to ((text_of n (many word)).value ws))
+words_reach : (n at end to : ℕ) (ws : (text_of n (many word)).Phrase) → to ≤ at → AreInOrder at end ((text_of n (many word)).tokens ws)
+    → Reaches to end (end_of to ((text_of n (many word)).value ws))
 words_reach n at end to [] le h = record { later = omega arith; within = omega (arith, le, h) }
 words_reach n at end to (w ∷ ws) le (a, b, c) =
     let r = words_reach n w.0.span.to end w.0.span.to ws (omega arith) c in
     record { later = omega (arith, le, a, b, r.later); within = r.within }
 
-all_words : (n at end : ℕ) (d : (text_of n words).Phrase) → AreInOrder at end ((text_of n words).tokens d) → Reaches (((text_of n words).value d).span.from) end (((text_of n words).value d).span.to)
+all_words : (n at end : ℕ) (d : (text_of n words).Phrase) → AreInOrder at end ((text_of n words).tokens d)
+    → Reaches (((text_of n words).value d).span.from) end (((text_of n words).value d).span.to)
 unfolding words
 all_words n at end (w, ws) (a, b, c) =
     let r = words_reach n w.0.span.to end w.0.span.to ws (omega arith) c in
@@ -70,5 +72,6 @@ type_lies end = record { holds = type_at end }
 -- two words, one after the other
 pub two_lie : (end : ℕ) (a b : Mark) → Gives end (seq (the a) (the b)) (λ d. LiesIn end (both d.0 d.1))
 two_lie end a b = record { holds = at } where
-  at : (n : ℕ) (d : (text_of n (seq (the a) (the b))).Phrase) → EndBy end ((text_of n (seq (the a) (the b))).tokens d) → LiesIn end (both (((text_of n (seq (the a) (the b))).value d).0) (((text_of n (seq (the a) (the b))).value d).1))
+  at : (n : ℕ) (d : (text_of n (seq (the a) (the b))).Phrase) → EndBy end ((text_of n (seq (the a) (the b))).tokens d)
+      → LiesIn end (both (((text_of n (seq (the a) (the b))).value d).0) (((text_of n (seq (the a) (the b))).value d).1))
   at n (x, y) (from, (p, q, (r, s, t))) = (omega (arith, q, r, s), t)

@@ -1,5 +1,6 @@
 -- The path blocks of a graph block of a query that can be lowered can be compared with their candidates.
-use Rattle.std.proofs.Common.{◌≡◌, ℕ, zero, suc, ◌+◌, ◌-◌, ◌≤◌, ◌<◌, ◌^◌, Bool, true, List, [], ◌∷◌, ◌++◌, map, filter, flat_map, length, drop, slice_index_or, refl, sym, ap, ap₂, subst, ◌∙◌, inl, inr, arith, nat_eq, None, length-append}
+use Rattle.std.proofs.Common.{◌≡◌, ℕ, zero, suc, ◌+◌, ◌-◌, ◌≤◌, ◌<◌, ◌^◌, Bool, true, List, [], ◌∷◌, ◌++◌, map, filter, flat_map, length, drop, slice_index_or, refl, sym, ap}
+use Rattle.std.proofs.Common.{ap₂, subst, ◌∙◌, inl, inr, arith, nat_eq, None, length-append}
 use Rattle.std.specs.List.{AllZip, enumerate_from, list_all}
 use Rattle.std.proofs.Math.ListN.{length-map}
 use Rattle.std.proofs.lemmas.List.FromFn.{length-range_with_len}
@@ -48,6 +49,7 @@ use Rattle.path_lowering.proofs.PlacingLemmas.{each_of}
 use Rattle.path_lowering.proofs.ServedLemmas.{graph_valid}
 use Rattle.path_lowering.proofs.Theorems.{first_item}
 use Rattle.shortest_lowering.specs.Comparable.{candidate_spots, IsStanding, IsPosed, IsComparable}
+use Rattle.shortest_lowering.specs.PathCandidates.{IsByItself}
 
 -- members that are the same as the first are the same
 first_same : {X : Type 0} (same : X → X → Bool) (is : (x y : X) → same x y ≡ true → x ≡ y) (x : X) (xs : List X)
@@ -144,7 +146,7 @@ module _ (catalog : Catalog) (graph : Graph) (valid : IsValidGraph catalog graph
           (alike_at nat_eq (λ x y e. eqb-true x y e) (λ spot. spot.element) (singletons_of path) other.tags (candidate_spots other)
           (sym (ap₂ (λ t (l : List Spot). agree nat_eq (singletons_of path) t (map (λ spot. spot.element) l)) tags_are spots_are) ∙ laid.numbers) name k a b h i)
 
-      standing : IsStanding catalog graph path other
+      pub standing : IsStanding catalog graph path other
       standing = record {
         valid = valid;
         layable = layable path place other among there few;
@@ -249,6 +251,19 @@ comparable catalog query served fits block there =
     all_comparable catalog graph valid (without_rows catalog) fits query served.lowerable (query_path_blocks graph query) 0 query.paths block.paths
     (λ path h. h) (served.lowerable.few block there) refl
     (block_picks catalog graph valid (without_rows catalog) fits [] query block there)
+
+-- a path block of a query that can be lowered, by itself
+pub by_itself : (catalog : Catalog) (query : CheckedQuery) (served : IsServed catalog query) (fits : Fits catalog (without_rows catalog))
+    (path : CheckedPath) → IsIn path query.paths → (place : ℕ) (part : PathBlock) → IsIn part (path_blocks (graph_at catalog query.graph) place path)
+    → length part.elements < 2 ^ 32 → IsByItself catalog (graph_at catalog query.graph) path part
+by_itself catalog query served fits path among place part there few =
+    let graph = graph_at catalog query.graph in
+    let valid = graph_valid catalog query served fits in
+    let known = belongs catalog graph valid (without_rows catalog) fits query served.lowerable path place part among there in
+    record {
+      standing = standing catalog graph valid (without_rows catalog) fits query served.lowerable path among place part there few;
+      some = some_number catalog graph valid (without_rows catalog) fits query served.lowerable part.elements known.fitting.numbers;
+    }
 
 -- its graph over an instance that fits
 pub fitting : (catalog : Catalog) (query : CheckedQuery) → IsServed catalog query → (instance : InstanceRows) → Fits catalog instance

@@ -7,3 +7,11 @@ pub mod ComparableLemmas
 pub mod ShorterSteps
 pub mod StandingLemmas
 pub mod SmallLemmas
+pub mod BetweenMeans
+pub mod OneToOne
+pub mod BindingTuples
+pub mod PlanItems
+pub mod PairTuples
+pub mod OwnLeaves
+pub mod FormedLemmas
+pub mod KeyLeaves

@@ -80,11 +80,11 @@ module _ (catalog : Catalog) (instance : InstanceRows) where
       abbrev plan : List ℕ
       plan = plan_of (query_singletons query) (flat_map (λ part. part.tags) block.paths)
 
-      long : length plan ≡ length (flat_map (λ part. part.elements) block.paths)
+      pub long : length plan ≡ length (flat_map (λ part. part.elements) block.paths)
       long = plan_is_long catalog graph valid instance fitting.fits query ok 65 combined combines block there
 
       -- the conjuncts of the selectors say what the selectors keep
-      say : SayBesides catalog graph instance 65 (laid_spots parts) [] [] (flat_map (shorter_of catalog graph combined) parts) (keeps graph instance query.paths block.paths)
+      pub say : SayBesides catalog graph instance 65 (laid_spots parts) [] [] (flat_map (shorter_of catalog graph combined) parts) (keeps graph instance query.paths block.paths)
       say = λ rows tuple shows under.
           all_paths catalog graph instance combined fitting.valid fitting.there fitting.fits valid query ok combines tuple rows 0 query.paths block.paths plan (λ path h. h)
           (block_picks catalog graph valid instance fitting.fits [] query block there) long (ok.few block there) shows

@@ -43,10 +43,10 @@ block_place : (graph : Graph) (path : CheckedPath) (place : ℕ) (part : PathBlo
 block_place graph path place part h = let made = from_map (block_of graph path place) part (shapes graph path) h in sym (ap (λ (b : PathBlock). b.path) made.2)
 
 -- the first of some rows that are put together, and those behind them
-first_rows : {X : Type 0} (us vs : List X) (n : ℕ) → length us ≡ n → take n (us ++ vs) ≡ us
+pub first_rows : {X : Type 0} (us vs : List X) (n : ℕ) → length us ≡ n → take n (us ++ vs) ≡ us
 first_rows us vs n long = ap (λ m. take m (us ++ vs)) (sym long) ∙ take-append_seam us vs
 
-last_rows : {X : Type 0} (us vs : List X) (n : ℕ) → length us ≡ n → drop n (us ++ vs) ≡ vs
+pub last_rows : {X : Type 0} (us vs : List X) (n : ℕ) → length us ≡ n → drop n (us ++ vs) ≡ vs
 last_rows us vs n long = ap (λ m. drop m (us ++ vs)) (sym long) ∙ drop-append_seam us vs
 
 module _ (graph : Graph) (instance : InstanceRows) where

@@ -1,5 +1,6 @@
 -- The SELECT of a candidate from its parts, and the conjunct of one candidate more.
-use Rattle.std.proofs.Common.{◌≡◌, ℕ, zero, suc, ◌+◌, ◌<◌, add-one, Bool, true, false, cond, List, [], ◌∷◌, ◌++◌, map, filter, length, get_or, take, sym, ap, ap₂, ◌∙◌, arith, append_assoc, Option, None}
+use Rattle.std.proofs.Common.{◌≡◌, ℕ, zero, suc, ◌+◌, ◌<◌, add-one, Bool, true, false, cond, List, [], ◌∷◌, ◌++◌, map, filter, length, get_or, take, sym, ap, ap₂, ◌∙◌, arith}
+use Rattle.std.proofs.Common.{append_assoc, Option, None}
 use Rattle.graph_ast.specs.declared.catalog.Catalog.{Catalog}
 use Rattle.graph_ast.specs.declared.catalog.Graph.{Graph}
 use Rattle.graph_ast.specs.declared.checked.CheckedPath.{CheckedPath}
@@ -8,6 +9,7 @@ use Rattle.graph_ast.specs.declared.blocks.Tags.{Tags}
 use Rattle.graph_ast.specs.declared.blocks.PathBlock.{PathBlock}
 use Rattle.graph_meaning.specs.Choices.{Condition, singletons_of}
 use Rattle.sql_algebra.specs.declared.tree.Conjunct.{Conjunct}
+use Rattle.sql_algebra.specs.declared.tree.Select.{Select}
 use Rattle.path_lowering.specs.declared.spots.Spot.{Spot}
 use Rattle.path_lowering.specs.Emitted.{SqlCondition, mode_conditions, sharing_conditions}
 use Rattle.path_lowering.specs.Blocks.{Laid, laid_tags, laid_spots, alternatives_of, block_conditions}
@@ -16,8 +18,9 @@ use Rattle.path_lowering.specs.Shortest.{one_column, candidate_laid}
 use Rattle.path_lowering.specs.Apart.{apart}
 use Rattle.path_lowering.proofs.Lists.{append-nil, map-append, filter-append}
 use Rattle.shortest_lowering.specs.Comparable.{candidate_spots, candidate_conditions, with_conjuncts}
+use Rattle.shortest_lowering.specs.PathCandidates.{path_select}
 
-nothing_besides : (catalog : Catalog) (graph : Graph) (prefix : ℕ) (names : List (List ℕ)) (parts : List Laid) (condition : Option Condition)
+pub nothing_besides : (catalog : Catalog) (graph : Graph) (prefix : ℕ) (names : List (List ℕ)) (parts : List Laid) (condition : Option Condition)
     (outputs : List Output) (more : List Conjunct)
     → with_conjuncts (select_for catalog graph prefix names parts condition outputs) more ≡ select_besides catalog graph prefix names parts condition outputs [] more
 nothing_besides catalog graph prefix names parts condition outputs more =
@@ -34,17 +37,22 @@ select_same catalog graph prefix tags tags_too spots spots_too conditions condit
     ∙ ap₂ (λ (x : List SqlCondition) (y : List Output). select_with catalog graph prefix tags_too spots_too x y) c o
 
 -- a candidate is one path, of which each singleton has its places
+pub candidate_alone : (catalog : Catalog) (graph : Graph) (path : CheckedPath) (other : PathBlock)
+    → select_with catalog graph 83 other.tags (candidate_spots other) (candidate_conditions catalog graph 83 path other) (one_column ∷ []) ≡ path_select catalog graph path other
+candidate_alone catalog graph path other =
+    let spots = candidate_spots other in
+    let front = apart (alternatives_of catalog graph 83 path other spots) ++ mode_conditions catalog graph 83 path.mode spots in
+    ap₂ (λ (a b : List SqlCondition). select_with catalog graph 83 other.tags spots (a ++ b) (one_column ∷ []))
+    (sym (append-nil front)) (sym (append-nil (sharing_conditions catalog graph 83 (singletons_of path) other.tags spots)))
+    ∙ ap₂ (λ (x : List Tags) (y : List Spot). select_with catalog graph 83 x y
+    ((front ++ []) ++ (sharing_conditions catalog graph 83 (singletons_of path) x y ++ [])) (one_column ∷ []))
+    (sym (append-nil other.tags)) (sym (append-nil spots))
+
 pub candidate_is : (catalog : Catalog) (graph : Graph) (path : CheckedPath) (other : PathBlock) (more : List Conjunct)
     → with_conjuncts (select_with catalog graph 83 other.tags (candidate_spots other) (candidate_conditions catalog graph 83 path other) (one_column ∷ [])) more
     ≡ select_besides catalog graph 83 (singletons_of path) (candidate_laid catalog graph apart path other ∷ []) None (one_column ∷ []) [] more
 candidate_is catalog graph path other more =
-    let spots = candidate_spots other in
-    let front = apart (alternatives_of catalog graph 83 path other spots) ++ mode_conditions catalog graph 83 path.mode spots in
-    ap₂ (λ (a b : List SqlCondition). with_conjuncts (select_with catalog graph 83 other.tags spots (a ++ b) (one_column ∷ [])) more)
-    (sym (append-nil front)) (sym (append-nil (sharing_conditions catalog graph 83 (singletons_of path) other.tags spots)))
-    ∙ ap₂ (λ (x : List Tags) (y : List Spot). with_conjuncts (select_with catalog graph 83 x y
-    ((front ++ []) ++ (sharing_conditions catalog graph 83 (singletons_of path) x y ++ [])) (one_column ∷ [])) more)
-    (sym (append-nil other.tags)) (sym (append-nil spots))
+    ap (λ (select : Select). with_conjuncts select more) (candidate_alone catalog graph path other)
     ∙ nothing_besides catalog graph 83 (singletons_of path) (candidate_laid catalog graph apart path other ∷ []) None (one_column ∷ []) more
 
 take_next : {X : Type 0} (xs : List X) (i : ℕ) (x : X) → x ≡ get_or xs i x → i < length xs → take (suc i) xs ≡ take i xs ++ x ∷ []

@@ -35,7 +35,7 @@ each_in P [] all x h = absurd h
 each_in P (y ∷ ys) all x (inl e) = subst P e all.0
 each_in P (y ∷ ys) all x (inr h) = each_in P ys all.1 x h
 
-names_differ : (names : List (List ℕ)) → all_different bytes_eq names ≡ true → IsWithoutRepeats names
+pub names_differ : (names : List (List ℕ)) → all_different bytes_eq names ≡ true → IsWithoutRepeats names
 names_differ names = different_once bytes_eq bytes_eq-Decides names
 
 one_column : (table : Table) (column : ℕ) → column < length table.columns → AreColumnsOf table (column ∷ [])

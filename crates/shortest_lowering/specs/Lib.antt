@@ -1,3 +1,6 @@
 pub mod Selected
 pub mod Comparable
 pub mod SmallQuery
+pub mod NoShorter
+pub mod StandsFor
+pub mod PathCandidates

@@ -5,15 +5,16 @@ ghost use Rattle.path_lowering.specs.Apart.{apart};
 ghost use Rattle.path_lowering.specs.Selects.{select_with};
 ghost use Rattle.path_lowering.specs.Shortest.{one_column, candidate_laid, candidate_select as select_of_candidate};
 ghost use Rattle.shortest_lowering.specs.Comparable.{candidate_spots, candidate_conditions, with_conjuncts, IsStanding, IsPosed};
+ghost use Rattle.shortest_lowering.specs.PathCandidates.{IsByItself, path_candidate as candidate_of_block};
 
 use expr_tree::Expr;
-use graph_ast::{CheckedPath, Output, PathBlock};
+use graph_ast::{Catalog, CheckedPath, Graph, Output, PathBlock};
 use path_lowering::{
-    Place, Scene, Spot, add_path_singletons, add_places, ends_across, path_conditions, select_of,
-    sharing_conditions, spots_along,
+    Place, Scene, Spot, add_path_singletons, add_places, ends_across, key_leaves, path_conditions,
+    select_of, sharing_conditions, spots_along,
 };
 use pgq_base::{List, Name, NoMemory, Value};
-use sql_algebra::{ColumnLeaf, Conjunct, Select};
+use sql_algebra::{Candidate, ColumnLeaf, Conjunct, Select};
 use std::alloc::Global;
 
 fn numbers_below(alloc: Global, count: usize) -> Result<Vec<u32>, NoMemory>
@@ -98,7 +99,10 @@ fn add_plain(
 }
 
 /// The SELECT with more conditions, as conjuncts of their own.
-fn with_conditions(select: Select, conditions: Vec<Expr<ColumnLeaf>>) -> Result<Select, NoMemory>
+pub(crate) fn with_conditions(
+    select: Select,
+    conditions: Vec<Expr<ColumnLeaf>>,
+) -> Result<Select, NoMemory>
     ensures { IfOk result (λ all. all ≡ with_conjuncts select (map Plain conditions.items)) }
 {
     let Select {
@@ -146,4 +150,37 @@ pub(crate) fn candidate_select(
     let select = select_along(alloc, &inner, path, candidate, spots)?;
     let ends = ends_across(alloc, &inner, spots, outside)?;
     with_conditions(select, ends)
+}
+
+/// The candidate of a path block by itself: its SELECT under the letter S, its number of edges, the elements at its ends, and the leaves of
+/// their keys.
+pub fn path_candidate(
+    alloc: Global,
+    catalog: &Catalog,
+    graph: &Graph,
+    path: &CheckedPath,
+    block: &PathBlock,
+) -> Result<Candidate, NoMemory>
+    requires { IsByItself catalog.now graph.now path.now block.now }
+    ensures { IfOk result (λ candidate. candidate ≡ candidate_of_block catalog.now graph.now path.now block.now) }
+{
+    let scene = Scene {
+        catalog,
+        graph,
+        prefix: b'S',
+    };
+    let made = spots_of(alloc, block)?;
+    let spots = made.as_slice();
+    let elements = block.elements.as_slice();
+    let select = select_along(alloc, &scene, path, block, spots)?;
+    let first_key = key_leaves(alloc, &scene, &spots[0])?;
+    let last_key = key_leaves(alloc, &scene, &spots[spots.len() - 1])?;
+    Ok(Candidate {
+        select,
+        length: (elements.len() / 2) as u32,
+        first: elements[0],
+        last: elements[elements.len() - 1],
+        first_key,
+        last_key,
+    })
 }

@@ -1,5 +1,6 @@
 -- The text of a day names that day.
-use Rattle.std.proofs.Common.{◌≡◌, ℕ, zero, suc, ◌+◌, ◌/◌, ◌%◌, ◌<◌, ◌≤◌, Bool, true, false, nat_lt, nat_le, cond, ◌&&◌, List, [], ◌∷◌, length, refl, sym, ap, ◌∙◌, arith, ℤ, pos, negsuc, neg_ℤ, unsigned_abs, int_le, ◌+ℤ◌, ◌≤ℤ◌, ◌⊎◌, inl, inr}
+use Rattle.std.proofs.Common.{◌≡◌, ℕ, zero, suc, ◌+◌, ◌/◌, ◌%◌, ◌<◌, ◌≤◌, Bool, true, false, nat_lt, nat_le, cond, ◌&&◌, List, [], ◌∷◌, length, refl, sym, ap, ◌∙◌, arith, ℤ, pos}
+use Rattle.std.proofs.Common.{negsuc, neg_ℤ, unsigned_abs, int_le, ◌+ℤ◌, ◌≤ℤ◌, ◌⊎◌, inl, inr}
 use Rattle.std.proofs.lemmas.Bool.{cases_order}
 use Rattle.std.proofs.lemmas.Bool.Decides.{nat_tests}
 use Rattle.std.proofs.lemmas.Str.{IsUtf8-from_ascii, is_utf8-from_IsUtf8}
@@ -50,7 +51,8 @@ next_month n c h last less = record {
 next_year : (n : ℕ) (c : Civil) → Counts n c → c.day ≡ days_in_month (pos c.year) c.month → c.month ≡ 12 → Counts (suc n) (civil (c.year + 1) 1 1)
 next_year n c h last december =
     let thirty_one : c.day ≡ 31 = last ∙ ap (λ m. days_in_month (pos c.year) m) december in
-    let number : days_from_civil (pos c.year) 12 31 +ℤ pos 719162 ≡ pos n = ap (λ d. days_from_civil (pos c.year) 12 d +ℤ pos 719162) (sym thirty_one) ∙ ap (λ m. days_from_civil (pos c.year) m c.day +ℤ pos 719162) (sym december) ∙ h.number in
+    let number : days_from_civil (pos c.year) 12 31 +ℤ pos 719162 ≡ pos n = ap (λ d. days_from_civil (pos c.year) 12 d +ℤ pos 719162) (sym thirty_one)
+    ∙ ap (λ m. days_from_civil (pos c.year) m c.day +ℤ pos 719162) (sym december) ∙ h.number in
     record {
       year = omega arith;
       month = (omega arith, omega arith);
@@ -65,7 +67,8 @@ next_counts n c h = by (nat_lt c.day (days_in_month (pos c.year) c.month)) refl
     at_end last true e = let less : c.month < 12 = grind (arith, nat_tests) in next_month n c h last less
     at_end last false e = let most : 12 ≤ c.month = grind (arith, nat_tests) in next_year n c h last (omega (arith, h.month.1))
 
-    by : (b : Bool) → nat_lt c.day (days_in_month (pos c.year) c.month) ≡ b → Counts (suc n) (cond b (civil c.year c.month (c.day + 1)) (cond (nat_lt c.month 12) (civil c.year (c.month + 1) 1) (civil (c.year + 1) 1 1)))
+    by : (b : Bool) → nat_lt c.day (days_in_month (pos c.year) c.month) ≡ b
+        → Counts (suc n) (cond b (civil c.year c.month (c.day + 1)) (cond (nat_lt c.month 12) (civil c.year (c.month + 1) 1) (civil (c.year + 1) 1 1)))
     by true e = let less : c.day < days_in_month (pos c.year) c.month = grind (arith, nat_tests) in within_month n c h less
     by false e = let most : days_in_month (pos c.year) c.month ≤ c.day = grind (arith, nat_tests) in at_end (omega (arith, h.day.1)) (nat_lt c.month 12) refl
 
@@ -82,7 +85,8 @@ last_year n c h most = by (cases_order 9999 c.year)
     by (inr (inr e)) = omega arith
     by (inr (inl e)) =
         let valid : IsCivilDate (pos 9999) 12 31 = ((omega (arith, signed_arith), omega (arith, signed_arith)), (omega arith, omega arith), (omega arith, omega arith)) in
-        let later : day_count (pos 9999) 12 31 < day_count (pos c.year) c.month c.day = day_count-lt_year (pos 9999) 12 31 (pos c.year) c.month c.day valid h.day.0 (omega (arith, signed_arith)) in
+        let later : day_count (pos 9999) 12 31 < day_count (pos c.year) c.month c.day = day_count-lt_year (pos 9999) 12 31 (pos c.year) c.month c.day valid h.day.0
+        (omega (arith, signed_arith)) in
         absurd (omega (arith, signed_arith, later, h.number, days_from_civil-max, days_from_civil-day_count (pos 9999) 12 31, days_from_civil-day_count (pos c.year) c.month c.day))
 
 right : (a b : Bool) → (a && b) ≡ true → b ≡ true

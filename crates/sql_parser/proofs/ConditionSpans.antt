@@ -18,7 +18,8 @@ use Rattle.graph_ast.specs.declared.schema.Named.{Named}
 use Rattle.token_grammar.specs.Rules.Rule.{mapped, seq, many, nest}
 use Rattle.token_reading.specs.Tokens.{span_of as place_of}
 use Rattle.condition_grammar.specs.Classes.{left_parenthesis, right_parenthesis}
-use Rattle.condition_grammar.specs.Spans.{node, reach, span_of, last_span, without_first, tree_of, Tail, unless_none, enclosed, compared, ranged, listed, tested, all_of, any_of, not_if}
+use Rattle.condition_grammar.specs.Spans.{node, reach, span_of, last_span, without_first, tree_of, Tail, unless_none, enclosed, compared, ranged, listed, tested, all_of, any_of}
+use Rattle.condition_grammar.specs.Spans.{not_if}
 use Rattle.condition_grammar.specs.Conditions as g
 use Rattle.condition_grammar.specs.Conditions.{Inside}
 use Rattle.sql_algebra.specs.declared.text.ColumnRef.{ColumnRef}
@@ -26,7 +27,8 @@ use Rattle.sql_algebra.specs.Grammar.{Nested, HeldNested, HeldInside, Production
 use Rattle.sql_parser.specs.Conditions.{Condition, list, coalesce, parens, operand, including, predicate_tail, test_tail, negation, conjunction, two_or_more}
 use Rattle.sql_parser.specs.Operands.{dotted}
 use Rattle.sql_parser.specs.Spans.{select_spans}
-use Rattle.sql_parser.proofs.Placed.{Parts, text, not_before, cut, Lies, Lie, wider, wider_all, reach_lies, all_append, all_to, Held, Tells, Then, Any, IfGiven, Each, Widens, wider_each, any_tells, one_tells, mapped_tells, seq_tells, either_tells, opt_tells, many_tells}
+use Rattle.sql_parser.proofs.Placed.{Parts, text, not_before, cut, Lies, Lie, wider, wider_all, reach_lies, all_append, all_to, Held, Tells, Then, Any, IfGiven, Each, Widens}
+use Rattle.sql_parser.proofs.Placed.{wider_each, any_tells, one_tells, mapped_tells, seq_tells, either_tells, opt_tells, many_tells}
 
 -- ---- a condition between two places
 

@@ -21,11 +21,14 @@ use Rattle.sql_algebra.specs.declared.text.ConjunctText.TheVariants.{Plain, NotE
 use Rattle.sql_algebra.specs.declared.text.SelectText.{SelectText, out-SelectText, fold-roll-SelectText}
 use Rattle.sql_algebra.specs.declared.text.SqlText.{SqlText}
 use Rattle.sql_algebra.specs.Grammar.{Nested, inside, column, table, joined, next_chain, from_list, exists, after_not, conjunct, where_part, unless_none, select, sql}
-use Rattle.sql_parser.specs.Spans.{leaf_spans, condition_spans, column_spans, item_spans, conjunct_step, select_step, all_spans, select_spans, conjunct_spans, text_spans, SpansLieIn}
+use Rattle.sql_parser.specs.Spans.{leaf_spans, condition_spans, column_spans, item_spans, conjunct_step, select_step, all_spans, select_spans, conjunct_spans, text_spans}
+use Rattle.sql_parser.specs.Spans.{SpansLieIn}
 use Rattle.sql_parser.specs.Selects.{next_item}
 use Rattle.sql_parser.specs.Outcomes.{SpellsSql}
-use Rattle.sql_parser.proofs.Placed.{Parts, Lies, Lie, wider, wider_all, reach_lies, all_append, all_flat, all_to, Held, Tells, IfGiven, Each, Widens, wider_each, any_tells, mapped_tells, seq_tells, either_tells, opt_tells, many_tells}
-use Rattle.sql_parser.proofs.ConditionSpans.{LeafLies, Placed, wider_placed, not_placed, InsideHas, Inner, the_lies, name_lies, nest_tells, test_placed, negation_placed, condition_placed, behind_word, list_tells, operands_placed, members_placed}
+use Rattle.sql_parser.proofs.Placed.{Parts, Lies, Lie, wider, wider_all, reach_lies, all_append, all_flat, all_to, Held, Tells, IfGiven, Each, Widens, wider_each, any_tells}
+use Rattle.sql_parser.proofs.Placed.{mapped_tells, seq_tells, either_tells, opt_tells, many_tells}
+use Rattle.sql_parser.proofs.ConditionSpans.{LeafLies, Placed, wider_placed, not_placed, InsideHas, Inner, the_lies, name_lies, nest_tells, test_placed, negation_placed}
+use Rattle.sql_parser.proofs.ConditionSpans.{condition_placed, behind_word, list_tells, operands_placed, members_placed}
 
 -- ---- the lists of spans
 

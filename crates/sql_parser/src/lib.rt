@@ -7,9 +7,5 @@ mod lists;
 mod operands;
 mod parsing;
 mod selects;
-#[cfg(test)]
-mod shown;
-#[cfg(test)]
-mod tests;
 
 pub use parsing::{one_outcome, one_tree, parse_sql};

@@ -75,9 +75,11 @@ tells_both a b c d e f g h x y = record {
 pub tells_nothing : Tells true true true true
 tells_nothing = record { there = λ p q r. refl; names_hold = λ s. refl; types_hold = λ s. refl; shape_holds = λ s. refl }
 
-pub tells_all : {X Y : Type 0} (a b c : X → Bool) (d : Y → Bool) (g : X → Y) → ((x : X) → Tells (a x) (b x) (c x) (d (g x))) → (xs : List X) → Tells (list_all a xs) (list_all b xs) (list_all c xs) (list_all d (map g xs))
+pub tells_all : {X Y : Type 0} (a b c : X → Bool) (d : Y → Bool) (g : X → Y) → ((x : X) → Tells (a x) (b x) (c x) (d (g x))) → (xs : List X)
+    → Tells (list_all a xs) (list_all b xs) (list_all c xs) (list_all d (map g xs))
 tells_all a b c d g each [] = tells_nothing
-tells_all a b c d g each (x ∷ xs) = tells_both (a x) (b x) (c x) (d (g x)) (list_all a xs) (list_all b xs) (list_all c xs) (list_all d (map g xs)) (each x) (tells_all a b c d g each xs)
+tells_all a b c d g each (x ∷ xs) = tells_both (a x) (b x) (c x) (d (g x)) (list_all a xs) (list_all b xs) (list_all c xs) (list_all d (map g xs)) (each x)
+    (tells_all a b c d g each xs)
 
 pub tells_by : (a b c d e f g h : Bool) → a ≡ e → b ≡ f → c ≡ g → d ≡ h → Tells e f g h → Tells a b c d
 tells_by a b c d e f g h p q r s x = record {

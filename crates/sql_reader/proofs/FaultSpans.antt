@@ -33,7 +33,8 @@ use Rattle.sql_reader.specs.Names.{unknown_column, leaf_at, leaf_names, value_na
 use Rattle.sql_reader.specs.Types.{Typed, leaf_class, mismatch, truth_asked, class_asked, operand_faults, operands_faults, differing, test_asked, typed_step, typed}
 use Rattle.sql_reader.specs.Phases as phases
 use Rattle.sql_reader.specs.Phases.{first_fault, or_then}
-use Rattle.sql_reader.specs.Phases.{value_faults, condition_faults, given_faults, chain_to, members_of, on_faults, select_faults, conjunct_faults, column_class, column_classes, differing_items, later_faults, united_faults, union_faults, faults_in}
+use Rattle.sql_reader.specs.Phases.{value_faults, condition_faults, given_faults, chain_to, members_of, on_faults, select_faults, conjunct_faults, column_class, column_classes}
+use Rattle.sql_reader.specs.Phases.{differing_items, later_faults, united_faults, union_faults, faults_in}
 
 -- It holds of what stands for the first of no spans, too.
 module _ (P : Span → Type 0) (nowhere : P (first_span [])) where

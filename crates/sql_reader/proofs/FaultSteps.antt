@@ -12,7 +12,8 @@ use Rattle.expr_tree.specs.declared.tree.Expr.TheVariants as v
 use Rattle.expr_tree.specs.Leaves.{joined, leaves_step, leaves_in}
 use Rattle.expr_tree.proofs.Folds.{at_layer}
 
-pub flat_append : {X : Type 0} (f : X → List Fault) (first : Option Fault) (xs ys : List X) → first_of first (flat_map f (xs ++ ys)) ≡ first_of (first_of first (flat_map f xs)) (flat_map f ys)
+pub flat_append : {X : Type 0} (f : X → List Fault) (first : Option Fault) (xs ys : List X) → first_of first (flat_map f (xs ++ ys))
+    ≡ first_of (first_of first (flat_map f xs)) (flat_map f ys)
 flat_append f first xs ys = ap (first_of first) (flat_map-append f xs ys) ∙ first_of_append first (flat_map f xs) (flat_map f ys)
 
 -- a loop over lists of leaves
@@ -33,14 +34,18 @@ module _ {L : Type 0} (f : L → List Fault) (first : Option Fault) (e : Expr L)
 
   pub compare_leaves : (op : Comparison) (a b : Expr L) (second last : Option Fault) → e ≡ v.Compare op a b → second ≡ after first a → last ≡ after second b → last ≡ after first e
   compare_leaves op a b second last is p q =
-      q ∙ ap (λ s. after s b) p ∙ sym (ap (λ l. first_of first (flat_map f l)) (leaves_at (Expr-F.Compare op a b) (v.rolls-Compare op a b ∙ sym is)) ∙ flat_append f first (leaves_in a) (leaves_in b))
+      q ∙ ap (λ s. after s b) p ∙ sym (ap (λ l. first_of first (flat_map f l)) (leaves_at (Expr-F.Compare op a b) (v.rolls-Compare op a b ∙ sym is))
+      ∙ flat_append f first (leaves_in a) (leaves_in b))
 
-  pub list_leaves : (a : Expr L) (es : List (Expr L)) (n : Bool) (second last : Option Fault) → e ≡ v.InList a es n → second ≡ after first a → last ≡ first_of second (flat_map f (joined (map leaves_in es))) → last ≡ after first e
+  pub list_leaves : (a : Expr L) (es : List (Expr L)) (n : Bool) (second last : Option Fault) → e ≡ v.InList a es n → second ≡ after first a → last
+      ≡ first_of second (flat_map f (joined (map leaves_in es))) → last ≡ after first e
   list_leaves a es n second last is p q =
       q ∙ ap (λ s. first_of s (flat_map f (joined (map leaves_in es)))) p
-      ∙ sym (ap (λ l. first_of first (flat_map f l)) (leaves_at (Expr-F.InList a es n) (v.rolls-InList a es n ∙ sym is)) ∙ flat_append f first (leaves_in a) (joined (map leaves_in es)))
+      ∙ sym (ap (λ l. first_of first (flat_map f l)) (leaves_at (Expr-F.InList a es n) (v.rolls-InList a es n ∙ sym is))
+      ∙ flat_append f first (leaves_in a) (joined (map leaves_in es)))
 
-  pub between_leaves : (a b c : Expr L) (n : Bool) (second third last : Option Fault) → e ≡ v.Between a b c n → second ≡ after first a → third ≡ after second b → last ≡ after third c → last ≡ after first e
+  pub between_leaves : (a b c : Expr L) (n : Bool) (second third last : Option Fault) → e ≡ v.Between a b c n → second ≡ after first a → third ≡ after second b → last
+      ≡ after third c → last ≡ after first e
   between_leaves a b c n second third last is p q r =
       r ∙ ap (λ s. after s c) (q ∙ ap (λ s. after s b) p)
       ∙ sym (ap (λ l. first_of first (flat_map f l)) (leaves_at (Expr-F.Between a b c n) (v.rolls-Between a b c n ∙ sym is))

@@ -62,7 +62,8 @@ module _ (catalog : Catalog) (text : SqlText) where
   of_due filled None query e = let same : query_of catalog text ≡ query = cc in subst (λ q. 1 ≤ length (names_of q)) same (named catalog text.selects filled)
   of_due filled (Some f) query e = absurd cc
 
-  pub judged_filled : (ts : List Token) → AreSized ts → SpellsSql ts text → (result : Result SqlQuery (Stop Refusal)) → Gives (due catalog text) result → IfOk result (λ query. 1 ≤ length (names_of query))
+  pub judged_filled : (ts : List Token) → AreSized ts → SpellsSql ts text → (result : Result SqlQuery (Stop Refusal)) → Gives (due catalog text) result
+      → IfOk result (λ query. 1 ≤ length (names_of query))
   unfolding due
   judged_filled ts sized spelled (Ok query) e = of_due (first_filled ts text sized spelled) (first_fault catalog text) query e
   judged_filled ts sized spelled (Err stop) e = tt

@@ -28,12 +28,14 @@ pub reached_append : (catalog : Catalog) (xs ys : s.Reach) → reached catalog (
 reached_append catalog [] ys = refl
 reached_append catalog (x ∷ xs) ys = ap (λ l. item_reached catalog x ∷ l) (reached_append catalog xs ys)
 
-pub find_reached : (catalog : Catalog) (alias : List ℕ) (items : s.Reach) → item_of (reached catalog items) alias ≡ option_map (item_reached catalog) (find (λ item. bytes_eq item.alias alias) items)
+pub find_reached : (catalog : Catalog) (alias : List ℕ) (items : s.Reach) → item_of (reached catalog items) alias
+    ≡ option_map (item_reached catalog) (find (λ item. bytes_eq item.alias alias) items)
 find_reached catalog alias [] = refl
 find_reached catalog alias (x ∷ items) = by (bytes_eq x.alias alias) (find_reached catalog alias items)
   where
     by : (b : Bool) → item_of (reached catalog items) alias ≡ option_map (item_reached catalog) (find (λ item. bytes_eq item.alias alias) items)
-        → cond b (Some (item_reached catalog x)) (item_of (reached catalog items) alias) ≡ option_map (item_reached catalog) (cond b (Some x) (find (λ item. bytes_eq item.alias alias) items))
+        → cond b (Some (item_reached catalog x)) (item_of (reached catalog items) alias)
+        ≡ option_map (item_reached catalog) (cond b (Some x) (find (λ item. bytes_eq item.alias alias) items))
     by true e = refl
     by false e = e
 
@@ -113,7 +115,8 @@ aliases_differ catalog outer before (x ∷ items) =
     let name : List ℕ = x.alias.name in
     let p : Placed = placed catalog x in
     no_fault_append (when (is_some (item_of (before ++ outer) name)) code.DuplicateColumnName x.alias.span) (repeated_aliases catalog outer (before ++ p ∷ []) items)
-    ∙ ap (λ b. b && no_fault (repeated_aliases catalog outer (before ++ p ∷ []) items)) (no_fault_when (is_some (item_of (before ++ outer) name)) code.DuplicateColumnName x.alias.span ∙ ap not (found_alias name (before ++ outer)))
+    ∙ ap (λ b. b && no_fault (repeated_aliases catalog outer (before ++ p ∷ []) items))
+    (no_fault_when (is_some (item_of (before ++ outer) name)) code.DuplicateColumnName x.alias.span ∙ ap not (found_alias name (before ++ outer)))
     ∙ ap (λ b. not (is_in name (aliases (before ++ outer))) && b) (aliases_differ catalog outer (before ++ p ∷ []) items
     ∙ differ_with name (aliases (before ++ outer)) (aliases ((before ++ p ∷ []) ++ outer))
     (λ n. ap (is_in n) (pushed p before outer) ∙ is_in_with n name (aliases before) (aliases outer) ∙ ap (λ l. bytes_eq name n || is_in n l) (sym (aliases_append before outer)))
@@ -123,18 +126,21 @@ append_nil : {X : Type 0} (xs : List X) → xs ++ [] ≡ xs
 append_nil [] = refl
 append_nil (x ∷ xs) = ap (λ l. x ∷ l) (append_nil xs)
 
-pub columns_differ : (before : List (List ℕ)) (columns : List ColumnText) → no_fault (repeated_columns before columns) ≡ differ_from before (map (λ (c : ColumnText). c.name.name) columns)
+pub columns_differ : (before : List (List ℕ)) (columns : List ColumnText) → no_fault (repeated_columns before columns)
+    ≡ differ_from before (map (λ (c : ColumnText). c.name.name) columns)
 columns_differ before [] = refl
 columns_differ before (x ∷ columns) =
     let name : List ℕ = x.name.name in
     no_fault_append (when (is_in name before) code.DuplicateColumnName x.name.span) (repeated_columns (before ++ name ∷ []) columns)
     ∙ ap (λ b. b && no_fault (repeated_columns (before ++ name ∷ []) columns)) (no_fault_when (is_in name before) code.DuplicateColumnName x.name.span)
     ∙ ap (λ b. not (is_in name before) && b) (columns_differ (before ++ name ∷ []) columns
-    ∙ differ_with name before (before ++ name ∷ []) (λ n. is_in_with n name before [] ∙ ap (λ l. bytes_eq name n || is_in n l) (append_nil before)) (map (λ (c : ColumnText). c.name.name) columns))
+    ∙ differ_with name before (before ++ name ∷ []) (λ n. is_in_with n name before [] ∙ ap (λ l. bytes_eq name n || is_in n l) (append_nil before))
+    (map (λ (c : ColumnText). c.name.name) columns))
 
 -- each FROM names a table
 pub tables_known : (catalog : Catalog) (items : List ItemText) → list_all (λ (i : ItemText). no_fault (unknown_table catalog i)) items ≡ are_known (items_placed catalog items)
 tables_known catalog [] = refl
 tables_known catalog (x ∷ items) =
-    ap (λ b. b && list_all (λ (i : ItemText). no_fault (unknown_table catalog i)) items) (no_fault_unless (is_some (table_named catalog x.table.name)) code.UnknownTable x.table.span)
+    ap (λ b. b && list_all (λ (i : ItemText). no_fault (unknown_table catalog i)) items)
+    (no_fault_unless (is_some (table_named catalog x.table.name)) code.UnknownTable x.table.span)
     ∙ ap (λ b. is_some (table_named catalog x.table.name) && b) (tables_known catalog items)

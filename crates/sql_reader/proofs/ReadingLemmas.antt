@@ -40,13 +40,15 @@ module _ (tokens : List Token) (end : ℕ) (catalog : Catalog) where
       let same : r.text ≡ t = cc in
       subst (λ x. Gives x result) (ap (due catalog) (sym same) ∙ r.due_is) judged
 
-  pub from_text : (t : SqlText) → ((o : Result SqlText Refusal) → IsOutcome tokens end o → Gives o (Ok t)) → (result : Result SqlQuery (Stop Refusal)) → Gives (due catalog t) result
+  pub from_text : (t : SqlText) → ((o : Result SqlText Refusal) → IsOutcome tokens end o → Gives o (Ok t)) → (result : Result SqlQuery (Stop Refusal))
+      → Gives (due catalog t) result
       → (d : Result SqlQuery Refusal) → IsAnswer tokens end catalog d → Gives d result
   from_text t parsed result judged (Ok query) r = read_by t parsed result judged (Ok query) r
   from_text t parsed result judged (Err refusal) (inl first) = let whole : Err refusal ≡ Ok t = parsed (Err refusal) first in absurd cc
   from_text t parsed result judged (Err refusal) (inr r) = read_by t parsed result judged (Err refusal) r
 
-  pub from_stop : (stop : Stop Refusal) → ((o : Result SqlText Refusal) → IsOutcome tokens end o → Gives o (Err stop)) → (d : Result SqlQuery Refusal) → IsAnswer tokens end catalog d → Gives d (Err stop)
+  pub from_stop : (stop : Stop Refusal) → ((o : Result SqlText Refusal) → IsOutcome tokens end o → Gives o (Err stop)) → (d : Result SqlQuery Refusal)
+      → IsAnswer tokens end catalog d → Gives d (Err stop)
   from_stop NoMemory parsed d r = tt
   from_stop (Refused f) parsed (Ok query) r = let whole : Ok r.text ≡ Err f = parsed (Ok r.text) (r.spelled, r.shallow) in absurd cc
   from_stop (Refused f) parsed (Err refusal) (inl first) = let whole : Err refusal ≡ Err f = parsed (Err refusal) first in let same : refusal ≡ f = cc in ap Err same

@@ -25,7 +25,8 @@ use Rattle.sql_parser.specs.Operands.{dotted}
 use Rattle.sql_reader.specs.Shapes.{node_is_shaped, shape_step, is_shaped, value_is_shaped, select_is_shaped, AreSized}
 use Rattle.sql_reader.proofs.Clean.{pair}
 use Rattle.sql_reader.proofs.ShapedLiterals.{HasClass, literal_some, date_token}
-use Rattle.sql_reader.proofs.RuleValues.{Parts, Of, Gives, Any, IfGiven, Each, any_gives, one_gives, mapped_gives, seq_gives, either_gives, opt_gives, many_gives, behind_gives, nest_gives}
+use Rattle.sql_reader.proofs.RuleValues.{Parts, Of, Gives, Any, IfGiven, Each, any_gives, one_gives, mapped_gives, seq_gives, either_gives, opt_gives, many_gives, behind_gives}
+use Rattle.sql_reader.proofs.RuleValues.{nest_gives}
 
 abbrev pub Condition : Type 0
 Condition = Spanned ColumnRef

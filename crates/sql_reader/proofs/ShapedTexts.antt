@@ -19,8 +19,10 @@ use Rattle.sql_algebra.specs.Grammar.{Nested, inside, column, table, joined, nex
 use Rattle.sql_parser.specs.Outcomes.{SpellsSql}
 use Rattle.sql_reader.specs.Shapes.{value_is_shaped, item_is_shaped, conjunct_step, select_step, conjunct_is_shaped, select_is_shaped, HasShape, AreSized}
 use Rattle.sql_reader.proofs.Clean.{pair}
-use Rattle.sql_reader.proofs.RuleValues.{Parts, Of, Gives, IfGiven, Each, any_gives, mapped_gives, seq_gives, either_gives, opt_gives, many_gives, behind_gives, list_gives, nest_gives}
-use Rattle.sql_reader.proofs.ShapedConditions.{Condition, Shaped, SelectShaped, InsideHas, Inner, not_shaped, test_shaped, member_shaped, condition_shaped, operands_shaped, members_shaped}
+use Rattle.sql_reader.proofs.RuleValues.{Parts, Of, Gives, IfGiven, Each, any_gives, mapped_gives, seq_gives, either_gives, opt_gives, many_gives, behind_gives, list_gives}
+use Rattle.sql_reader.proofs.RuleValues.{nest_gives}
+use Rattle.sql_reader.proofs.ShapedConditions.{Condition, Shaped, SelectShaped, InsideHas, Inner, not_shaped, test_shaped, member_shaped, condition_shaped, operands_shaped}
+use Rattle.sql_reader.proofs.ShapedConditions.{members_shaped}
 
 each_true : {V : Type 0} (f : V → Bool) (vs : List V) → Each (λ v. f v ≡ true) vs → list_all f vs ≡ true
 each_true f [] h = refl

@@ -46,7 +46,8 @@ module _ (catalog : Catalog) (text : SqlText) where
       subst (SpellsQuery tokens) same (record { text = text; depth = n; spells = s; told = query_spelled catalog text })
   spelled_due tokens s (Some f) query e = absurd cc
 
-  pub judged_spelled : (tokens : List Token) → SpellsSql tokens text → (result : Result SqlQuery (Stop Refusal)) → Gives (due catalog text) result → IfOk result (SpellsQuery tokens)
+  pub judged_spelled : (tokens : List Token) → SpellsSql tokens text → (result : Result SqlQuery (Stop Refusal)) → Gives (due catalog text) result
+      → IfOk result (SpellsQuery tokens)
   unfolding due
   judged_spelled tokens s (Ok query) e = spelled_due tokens s (first_fault catalog text) query e
   judged_spelled tokens s (Err stop) e = tt

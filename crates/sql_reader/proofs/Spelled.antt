@@ -4,7 +4,8 @@ use Rattle.expr_tree.specs.declared.tree.Expr.{Expr, Expr-F, map-Expr}
 use Rattle.expr_tree.specs.declared.tree.Expr.TheVariants as e
 use Rattle.expr_tree.specs.Mapping.{mapped, map_step}
 use Rattle.expr_tree.proofs.Folds.{fused}
-use Rattle.expr_tree.proofs.MapLemmas.{mapped-Lit, mapped-Null, mapped-Leaf, mapped-Compare, mapped-All, mapped-Any, mapped-Not, mapped-Is, mapped-InList, mapped-Between, mapped-Coalesce}
+use Rattle.expr_tree.proofs.MapLemmas.{mapped-Lit, mapped-Null, mapped-Leaf, mapped-Compare, mapped-All, mapped-Any, mapped-Not, mapped-Is, mapped-InList, mapped-Between}
+use Rattle.expr_tree.proofs.MapLemmas.{mapped-Coalesce}
 use Rattle.graph_ast.specs.declared.catalog.Catalog.{Catalog}
 use Rattle.condition_grammar.specs.declared.spanned.Spanned.{Spanned}
 use Rattle.sql_algebra.specs.declared.tree.ColumnLeaf.{ColumnLeaf}
@@ -19,7 +20,8 @@ use Rattle.sql_algebra.specs.declared.text.ConjunctText.{ConjunctText, ConjunctT
 use Rattle.sql_algebra.specs.declared.text.ColumnText.{ColumnText}
 use Rattle.sql_algebra.specs.declared.text.ItemText.{ItemText}
 use Rattle.sql_algebra.specs.declared.text.ColumnRef.{ColumnRef}
-use Rattle.sql_algebra.specs.Meant.{bare_leaf, bare_value, bare_column, bare_item, bare_conjunct_step, bare_select_step, bare_conjunct, bare_select, told_value, told_column, told_item, told_conjunct_step, told_select_step, told_conjunct, told_select}
+use Rattle.sql_algebra.specs.Meant.{bare_leaf, bare_value, bare_column, bare_item, bare_conjunct_step, bare_select_step, bare_conjunct, bare_select, told_value, told_column}
+use Rattle.sql_algebra.specs.Meant.{told_item, told_conjunct_step, told_select_step, told_conjunct, told_select}
 use Rattle.sql_algebra.proofs.Folds.{at_select, at_plain, at_not_exists}
 use Rattle.sql_reader.specs.Reaches.{Reach, reach_within}
 use Rattle.sql_reader.specs.Phases.{chain_to}
@@ -33,7 +35,8 @@ module _ (reach : Reach) where
   abbrev told : ColumnRef → Expr ColumnLeaf
   told l = bare_leaf l.alias.name l.column.name
 
-  each : (x : Expr-F ColumnRef (Expr ColumnLeaf)) → mapped bare (map_step (leaf_made reach) x) ≡ map_step told (map-Expr ColumnRef (Expr ColumnLeaf) (Expr ColumnLeaf) (mapped bare) x)
+  each : (x : Expr-F ColumnRef (Expr ColumnLeaf)) → mapped bare (map_step (leaf_made reach) x)
+      ≡ map_step told (map-Expr ColumnRef (Expr ColumnLeaf) (Expr ColumnLeaf) (mapped bare) x)
   each (Expr-F.Lit v) = mapped-Lit bare (e.Lit v) v refl
   each (Expr-F.Null c) = mapped-Null bare (e.Null c) c refl
   each (Expr-F.Leaf l) = mapped-Leaf bare (leaf_made reach l) _ refl
@@ -63,7 +66,8 @@ module _ (reach : Reach) where
   columns_spelled : (cs : List ColumnText) → map bare_column (map (column_made reach) cs) ≡ map told_column cs
   columns_spelled [] = refl
   columns_spelled (c ∷ cs) =
-      ap (λ v. let x : SelectColumn = record { value = v; name = c.name.name } in x ∷ map bare_column (map (column_made reach) cs)) (value_spelled c.value) ∙ ap (λ l. told_column c ∷ l) (columns_spelled cs)
+      ap (λ v. let x : SelectColumn = record { value = v; name = c.name.name } in x ∷ map bare_column (map (column_made reach) cs)) (value_spelled c.value)
+      ∙ ap (λ l. told_column c ∷ l) (columns_spelled cs)
 
 module _ (catalog : Catalog) where
   items_spelled : (around before : Reach) (items : List ItemText) → map bare_item (items_made catalog around before items) ≡ map told_item items
@@ -97,7 +101,8 @@ module _ (catalog : Catalog) where
   select_makes x = queries.select_step catalog (map-SelectText ConjunctText SelectText (Reach → Conjunct) (Reach → Select) (conjunct_made catalog) (select_made catalog) x)
 
   abbrev ConjunctLayer : ConjunctText-F ConjunctText SelectText → Type 0
-  ConjunctLayer x = (reach : Reach) → bare_conjunct (conjunct_makes x reach) ≡ told_conjunct_step (map-ConjunctText ConjunctText SelectText Conjunct Select told_conjunct told_select x)
+  ConjunctLayer x = (reach : Reach) → bare_conjunct (conjunct_makes x reach)
+      ≡ told_conjunct_step (map-ConjunctText ConjunctText SelectText Conjunct Select told_conjunct told_select x)
 
   abbrev SelectLayer : SelectText-F ConjunctText SelectText → Type 0
   SelectLayer x = (around : Reach) → bare_select (select_makes x around) ≡ told_select_step (map-SelectText ConjunctText SelectText Conjunct Select told_conjunct told_select x)
@@ -108,10 +113,12 @@ module _ (catalog : Catalog) where
   conjunct_node (ConjunctText-F.NotExists t) reach =
       at_not_exists Conjunct Select bare_conjunct_step bare_select_step (select_made catalog t.0 reach) ∙ ap NotExists (t.1 reach)
 
-  conjuncts_spelled : (reach : Reach) (cs : List OneConjunct) → map bare_conjunct (map (λ (f : Reach → Conjunct). f reach) (map (conjunct_made catalog) (map conjunct_of cs))) ≡ map told_conjunct (map conjunct_of cs)
+  conjuncts_spelled : (reach : Reach) (cs : List OneConjunct) → map bare_conjunct (map (λ (f : Reach → Conjunct). f reach) (map (conjunct_made catalog) (map conjunct_of cs)))
+      ≡ map told_conjunct (map conjunct_of cs)
   conjuncts_spelled reach [] = refl
   conjuncts_spelled reach (c ∷ cs) =
-      ap (λ x. x ∷ map bare_conjunct (map (λ (f : Reach → Conjunct). f reach) (map (conjunct_made catalog) (map conjunct_of cs)))) (c.1 reach) ∙ ap (λ l. told_conjunct c.0 ∷ l) (conjuncts_spelled reach cs)
+      ap (λ x. x ∷ map bare_conjunct (map (λ (f : Reach → Conjunct). f reach) (map (conjunct_made catalog) (map conjunct_of cs)))) (c.1 reach)
+      ∙ ap (λ l. told_conjunct c.0 ∷ l) (conjuncts_spelled reach cs)
 
   abbrev with_parts : List SelectColumn → List FromItem → List Conjunct → Select
   with_parts columns from conjuncts = record { columns = columns; from = from; conjuncts = conjuncts }

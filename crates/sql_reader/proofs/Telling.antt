@@ -41,15 +41,18 @@ at_column leaf (Some column) = sym (same_self (class_of_column (Some column)))
 
 at_table : (leaf : ColumnRef) (o : Option Table) → is_some o ≡ true → no_fault (unknown_column leaf o) ≡ s.has_column (leaf_with leaf (class_in_table leaf o)) o
 at_table leaf None known = absurd cc
-at_table leaf (Some table) known = no_fault_unless (is_some (column_named table leaf.column.name)) code.UnknownColumn leaf.column.span ∙ at_column leaf (column_named table leaf.column.name)
+at_table leaf (Some table) known = no_fault_unless (is_some (column_named table leaf.column.name)) code.UnknownColumn leaf.column.span
+    ∙ at_column leaf (column_named table leaf.column.name)
 
-known_at : (catalog : Catalog) (f : FromItem → Bool) (items : s.Reach) (item : FromItem) → are_known (reached catalog items) ≡ true → find f items ≡ Some item → is_some (table_named catalog item.table) ≡ true
+known_at : (catalog : Catalog) (f : FromItem → Bool) (items : s.Reach) (item : FromItem) → are_known (reached catalog items) ≡ true → find f items ≡ Some item
+    → is_some (table_named catalog item.table) ≡ true
 known_at catalog f [] item known is = absurd cc
 known_at catalog f (x ∷ items) item known is =
     let parts = both (is_some (table_named catalog x.table)) (are_known (reached catalog items)) known in
     by parts.0 (λ h. known_at catalog f items item parts.1 h) (f x) is
   where
-    by : is_some (table_named catalog x.table) ≡ true → (find f items ≡ Some item → is_some (table_named catalog item.table) ≡ true) → (b : Bool) → cond b (Some x) (find f items) ≡ Some item → is_some (table_named catalog item.table) ≡ true
+    by : is_some (table_named catalog x.table) ≡ true → (find f items ≡ Some item → is_some (table_named catalog item.table) ≡ true) → (b : Bool)
+        → cond b (Some x) (find f items) ≡ Some item → is_some (table_named catalog item.table) ≡ true
     by here rest true h = let same : x ≡ item = cc in subst (λ (i : FromItem). is_some (table_named catalog i.table) ≡ true) same here
     by here rest false h = rest h
 
@@ -90,7 +93,8 @@ module _ (catalog : Catalog) (items : s.Reach) (known : are_known (reached catal
   abbrev made : ColumnRef → ColumnLeaf
   made leaf = leaf_with leaf (leaf_class reach leaf)
 
-  leaves_told : (leaves : List ColumnRef) → list_all (λ l. no_fault (leaf_names reach l)) leaves ≡ list_all (s.leaf_is_sound catalog items) (flat_map (λ l. leaves_in (leaf_made reach l)) leaves)
+  leaves_told : (leaves : List ColumnRef) → list_all (λ l. no_fault (leaf_names reach l)) leaves
+      ≡ list_all (s.leaf_is_sound catalog items) (flat_map (λ l. leaves_in (leaf_made reach l)) leaves)
   leaves_told [] = refl
   leaves_told (l ∷ leaves) =
       ap (λ b. b && list_all (λ l. no_fault (leaf_names reach l)) leaves) (leaf_told catalog items known l)
@@ -104,10 +108,12 @@ module _ (catalog : Catalog) (items : s.Reach) (known : are_known (reached catal
 
   types_told : (v : Spanned ColumnRef) → (no_fault (value_types reach v) && value_is_shaped v) ≡ well_classed s.leaf_class (value_made reach v)
   types_told v =
-      ap (λ b. b && value_is_shaped v) (no_fault_append ((typed (leaf_class reach) v.tree).faults v.spans) [] ∙ and_true (no_fault ((typed (leaf_class reach) v.tree).faults v.spans)))
+      ap (λ b. b && value_is_shaped v) (no_fault_append ((typed (leaf_class reach) v.tree).faults v.spans) []
+      ∙ and_true (no_fault ((typed (leaf_class reach) v.tree).faults v.spans)))
       ∙ told (leaf_class reach) v.tree v.spans ∙ sym (rules_told reach v)
 
-  pub value_told : (v : Spanned ColumnRef) → Tells (no_fault (value_names reach v)) (no_fault (value_types reach v)) (value_is_shaped v) (s.value_is_sound catalog items (value_made reach v))
+  pub value_told : (v : Spanned ColumnRef) → Tells (no_fault (value_names reach v)) (no_fault (value_types reach v)) (value_is_shaped v)
+      (s.value_is_sound catalog items (value_made reach v))
   value_told v =
       let names = no_fault (value_names reach v) in
       let types = no_fault (value_types reach v) in
@@ -130,7 +136,8 @@ module _ (catalog : Catalog) (items : s.Reach) (known : are_known (reached catal
       ∙ ap (λ b. no_fault (value_types reach v) && b) (no_fault_unless (same_class Truth class) code.NotTruth (first_span v.spans)
       ∙ ap (same_class Truth) (typed_class (leaf_class reach) v.tree ∙ sym (class_told reach v)))
 
-  pub condition_told : (v : Spanned ColumnRef) → Tells (no_fault (value_names reach v)) (no_fault (condition_types reach v)) (value_is_shaped v) (s.condition_is_sound catalog items (value_made reach v))
+  pub condition_told : (v : Spanned ColumnRef) → Tells (no_fault (value_names reach v)) (no_fault (condition_types reach v)) (value_is_shaped v)
+      (s.condition_is_sound catalog items (value_made reach v))
   condition_told v =
       let value = value_told v in
       let sound = s.value_is_sound catalog items (value_made reach v) in

@@ -25,7 +25,8 @@ use Rattle.sql_reader.specs.declared.phases.Phase.TheVariants.{Names, Types}
 use Rattle.sql_reader.specs.Reaches.{Reach, placed, items_placed, reach_within}
 use Rattle.sql_reader.specs.Names.{unknown_table, repeated_aliases, repeated_columns}
 use Rattle.sql_reader.specs.Phases as p
-use Rattle.sql_reader.specs.Phases.{value_faults, condition_faults, given_faults, chain_to, members_of, on_faults, select_faults, conjunct_faults, column_class, column_classes, differing_items, later_faults, united_faults, faults_in, or_then, first_fault}
+use Rattle.sql_reader.specs.Phases.{value_faults, condition_faults, given_faults, chain_to, members_of, on_faults, select_faults, conjunct_faults, column_class, column_classes}
+use Rattle.sql_reader.specs.Phases.{differing_items, later_faults, united_faults, faults_in, or_then, first_fault}
 use Rattle.sql_reader.specs.Queries as q
 use Rattle.sql_reader.specs.Queries.{value_made, column_made, item_made, items_made, conjunct_made, select_made, query_of}
 use Rattle.sql_reader.specs.Shapes as h
@@ -38,15 +39,18 @@ module _ (catalog : Catalog) where
   -- ---- ONs
 
   members_told : (items : s.Reach) → are_known (reached catalog items) ≡ true → (members : List (Spanned ColumnRef))
-      → Tells (no_fault (flat_map (condition_faults Names (reached catalog items)) members)) (no_fault (flat_map (condition_faults Types (reached catalog items)) members)) (list_all value_is_shaped members)
+      → Tells (no_fault (flat_map (condition_faults Names (reached catalog items)) members)) (no_fault (flat_map (condition_faults Types (reached catalog items)) members))
+      (list_all value_is_shaped members)
       (list_all (s.condition_is_sound catalog items) (map (value_made (reached catalog items)) members))
   members_told items known members =
       let reach : Reach = reached catalog items in
       tells_by _ _ _ _ _ _ _ _ (no_fault_flat (condition_faults Names reach) members) (no_fault_flat (condition_faults Types reach) members) refl refl
-      (tells_all (λ m. no_fault (condition_faults Names reach m)) (λ m. no_fault (condition_faults Types reach m)) value_is_shaped (s.condition_is_sound catalog items) (value_made reach) (condition_told catalog items known) members)
+      (tells_all (λ m. no_fault (condition_faults Names reach m)) (λ m. no_fault (condition_faults Types reach m)) value_is_shaped (s.condition_is_sound catalog items)
+      (value_made reach) (condition_told catalog items known) members)
 
   on_told : (items : s.Reach) → are_known (reached catalog items) ≡ true → (o : Option (List (Spanned ColumnRef)))
-      → Tells (no_fault (flat_map (condition_faults Names (reached catalog items)) (members_of o))) (no_fault (flat_map (condition_faults Types (reached catalog items)) (members_of o))) (list_all value_is_shaped (members_of o))
+      → Tells (no_fault (flat_map (condition_faults Names (reached catalog items)) (members_of o)))
+      (no_fault (flat_map (condition_faults Types (reached catalog items)) (members_of o))) (list_all value_is_shaped (members_of o))
       (s.on_is_sound catalog items (option_map (map (value_made (reached catalog items))) o))
   on_told items known None = tells_nothing
   on_told items known (Some members) = members_told items known members
@@ -56,7 +60,8 @@ module _ (catalog : Catalog) where
   chain_reached before reach item f None = refl
   chain_reached before reach item f (Some members) = reached_append catalog before (item_made reach item ∷ [])
 
-  chain_known : (before : Reach) (item : ItemText) (o : Option (List (Spanned ColumnRef))) → are_known before ≡ true → is_some (table_named catalog item.table.name) ≡ true → are_known (chain_to catalog before item o) ≡ true
+  chain_known : (before : Reach) (item : ItemText) (o : Option (List (Spanned ColumnRef))) → are_known before ≡ true → is_some (table_named catalog item.table.name) ≡ true
+      → are_known (chain_to catalog before item o) ≡ true
   chain_known before item None h g = pair (is_some (table_named catalog item.table.name)) true g refl
   chain_known before item (Some members) h g = known_append before (placed catalog item ∷ []) h (pair (is_some (table_named catalog item.table.name)) true g refl)
 
@@ -66,9 +71,11 @@ module _ (catalog : Catalog) where
 
     abbrev OnsTold : s.Reach → Reach → List ItemText → Type 0
     OnsTold before chain items =
-        Tells (no_fault (on_faults Names catalog outer chain items)) (no_fault (on_faults Types catalog outer chain items)) (list_all item_is_shaped items) (s.ons_are_sound catalog around before (items_made catalog outer chain items))
+        Tells (no_fault (on_faults Names catalog outer chain items)) (no_fault (on_faults Types catalog outer chain items)) (list_all item_is_shaped items)
+        (s.ons_are_sound catalog around before (items_made catalog outer chain items))
 
-    ons_told : (before : s.Reach) → are_known (reached catalog before) ≡ true → (items : List ItemText) → are_known (items_placed catalog items) ≡ true → OnsTold before (reached catalog before) items
+    ons_told : (before : s.Reach) → are_known (reached catalog before) ≡ true → (items : List ItemText) → are_known (items_placed catalog items) ≡ true
+        → OnsTold before (reached catalog before) items
     ons_told before known [] all = tells_nothing
     ons_told before known (item ∷ items) all =
         let two = both (is_some (table_named catalog item.table.name)) (are_known (items_placed catalog items)) all in
@@ -78,8 +85,10 @@ module _ (catalog : Catalog) where
         let same : reached catalog after ≡ chain = chain_reached before (chain ++ outer) item (value_made (chain ++ outer)) item.on in
         let known_chain : are_known (reached catalog after) ≡ true = ap are_known same ∙ chain_known (reached catalog before) item item.on known two.0 in
         let joined : reached catalog (after ++ around) ≡ chain ++ outer = reached_append catalog after around ∙ ap (λ l. l ++ outer) same in
-        let known_joined : are_known (reached catalog (after ++ around)) ≡ true = ap are_known (reached_append catalog after around) ∙ known_append (reached catalog after) outer known_chain known_around in
-        let here = subst (λ r. Tells (no_fault (flat_map (condition_faults Names r) (members_of item.on))) (no_fault (flat_map (condition_faults Types r) (members_of item.on))) (item_is_shaped item)
+        let known_joined : are_known (reached catalog (after ++ around)) ≡ true = ap are_known (reached_append catalog after around)
+        ∙ known_append (reached catalog after) outer known_chain known_around in
+        let here = subst (λ r. Tells (no_fault (flat_map (condition_faults Names r) (members_of item.on))) (no_fault (flat_map (condition_faults Types r) (members_of item.on)))
+        (item_is_shaped item)
         (s.on_is_sound catalog (after ++ around) (option_map (map (value_made r)) item.on))) joined (on_told (after ++ around) known_joined item.on) in
         let there : OnsTold after chain items = subst (λ r. OnsTold after r items) same (ons_told after known_chain items two.1) in
         tells_by _ _ _ _ _ _ _ _
@@ -137,37 +146,46 @@ module _ (catalog : Catalog) where
 
   abbrev ConjunctLayer : ConjunctText-F ConjunctText SelectText → Type 0
   ConjunctLayer x = (items : s.Reach) → are_known (reached catalog items) ≡ true →
-      Tells (no_fault (conjunct_finds Names x (reached catalog items))) (no_fault (conjunct_finds Types x (reached catalog items))) (conjunct_shape x) (sound_conjunct (conjunct_makes x (reached catalog items)) items)
+      Tells (no_fault (conjunct_finds Names x (reached catalog items))) (no_fault (conjunct_finds Types x (reached catalog items))) (conjunct_shape x)
+      (sound_conjunct (conjunct_makes x (reached catalog items)) items)
 
   abbrev SelectLayer : SelectText-F ConjunctText SelectText → Type 0
   SelectLayer x = (around : s.Reach) → are_known (reached catalog around) ≡ true →
-      Tells (no_fault (select_finds Names x (reached catalog around))) (no_fault (select_finds Types x (reached catalog around))) (select_shape x) (s.select_is_sound catalog (select_makes x (reached catalog around)) around)
+      Tells (no_fault (select_finds Names x (reached catalog around))) (no_fault (select_finds Types x (reached catalog around))) (select_shape x)
+      (s.select_is_sound catalog (select_makes x (reached catalog around)) around)
 
   conjunct_node : (y : ConjunctText-F OneConjunct OneSelect) → ConjunctLayer (map-ConjunctText OneConjunct OneSelect ConjunctText SelectText conjunct_of select_of y)
   conjunct_node (ConjunctText-F.Plain v) items known =
-      tells_by _ _ _ _ _ _ _ _ refl refl refl (ap (λ (f : s.Reach → Bool). f items) (plain_sound catalog (value_made (reached catalog items) v))) (condition_told catalog items known v)
+      tells_by _ _ _ _ _ _ _ _ refl refl refl (ap (λ (f : s.Reach → Bool). f items) (plain_sound catalog (value_made (reached catalog items) v)))
+      (condition_told catalog items known v)
   conjunct_node (ConjunctText-F.NotExists t) items known =
       tells_by _ _ _ _ _ _ _ _ refl refl refl (ap (λ (f : s.Reach → Bool). f items) (not_exists_sound catalog (select_made catalog t.0 (reached catalog items)))) (t.1 items known)
 
   abbrev AllTold : s.Reach → Reach → List OneConjunct → Type 0
   AllTold items reach cs =
-      Tells (no_fault (flat_map (λ (f : FaultLayer). f reach) (map (conjunct_faults Names catalog) (map conjunct_of cs)))) (no_fault (flat_map (λ (f : FaultLayer). f reach) (map (conjunct_faults Types catalog) (map conjunct_of cs))))
+      Tells (no_fault (flat_map (λ (f : FaultLayer). f reach) (map (conjunct_faults Names catalog) (map conjunct_of cs))))
+      (no_fault (flat_map (λ (f : FaultLayer). f reach) (map (conjunct_faults Types catalog) (map conjunct_of cs))))
       (list_all (λ b. b) (map conjunct_is_shaped (map conjunct_of cs)))
       (list_all (λ (f : s.Reach → Bool). f items) (map sound_conjunct (map (λ (f : Reach → Conjunct). f reach) (map (conjunct_made catalog) (map conjunct_of cs)))))
 
   conjuncts_told : (items : s.Reach) → are_known (reached catalog items) ≡ true → (cs : List OneConjunct) → AllTold items (reached catalog items) cs
   conjuncts_told items known [] = tells_nothing
   conjuncts_told items known (c ∷ cs) =
-      tells_by _ _ _ _ _ _ _ _ (no_fault_append (conjunct_faults Names catalog c.0 (reached catalog items)) _) (no_fault_append (conjunct_faults Types catalog c.0 (reached catalog items)) _) refl refl
+      tells_by _ _ _ _ _ _ _ _ (no_fault_append (conjunct_faults Names catalog c.0 (reached catalog items)) _)
+      (no_fault_append (conjunct_faults Types catalog c.0 (reached catalog items)) _) refl refl
       (tells_both _ _ _ _ _ _ _ _ (c.1 items known) (conjuncts_told items known cs))
 
   columns_told : (items : s.Reach) → are_known (reached catalog items) ≡ true → (columns : List ColumnText)
-      → Tells (no_fault (flat_map (λ (c : ColumnText). value_faults Names (reached catalog items) c.value) columns)) (no_fault (flat_map (λ (c : ColumnText). value_faults Types (reached catalog items) c.value) columns))
-      (list_all (λ (c : ColumnText). value_is_shaped c.value) columns) (list_all (λ (c : SelectColumn). s.value_is_sound catalog items c.value) (map (column_made (reached catalog items)) columns))
+      → Tells (no_fault (flat_map (λ (c : ColumnText). value_faults Names (reached catalog items) c.value) columns))
+      (no_fault (flat_map (λ (c : ColumnText). value_faults Types (reached catalog items) c.value) columns))
+      (list_all (λ (c : ColumnText). value_is_shaped c.value) columns)
+      (list_all (λ (c : SelectColumn). s.value_is_sound catalog items c.value) (map (column_made (reached catalog items)) columns))
   columns_told items known columns =
       let reach : Reach = reached catalog items in
-      tells_by _ _ _ _ _ _ _ _ (no_fault_flat (λ (c : ColumnText). value_faults Names reach c.value) columns) (no_fault_flat (λ (c : ColumnText). value_faults Types reach c.value) columns) refl refl
-      (tells_all (λ (c : ColumnText). no_fault (value_faults Names reach c.value)) (λ (c : ColumnText). no_fault (value_faults Types reach c.value)) (λ (c : ColumnText). value_is_shaped c.value)
+      tells_by _ _ _ _ _ _ _ _ (no_fault_flat (λ (c : ColumnText). value_faults Names reach c.value) columns)
+      (no_fault_flat (λ (c : ColumnText). value_faults Types reach c.value) columns) refl refl
+      (tells_all (λ (c : ColumnText). no_fault (value_faults Names reach c.value)) (λ (c : ColumnText). no_fault (value_faults Types reach c.value))
+      (λ (c : ColumnText). value_is_shaped c.value)
       (λ (c : SelectColumn). s.value_is_sound catalog items c.value) (column_made reach) (λ c. value_told catalog items known c.value) columns)
 
   combine : (T A C N Y S V O J : Bool) → (T ≡ true → Tells N Y S (V && (O && J))) → Tells ((C && (T && A)) && N) Y S (((((T && A) && C) && V) && O) && J)
@@ -211,7 +229,8 @@ module _ (catalog : Catalog) where
 
   given_told : (outer : Reach) (columns : List ColumnText) (items : List ItemText) (rest : List Fault)
       → no_fault (given_faults Names catalog outer columns items ++ rest)
-      ≡ ((differ_from [] (map (λ (c : ColumnText). c.name.name) columns) && (are_known (items_placed catalog items) && differ_from (aliases outer) (names_of items))) && no_fault rest)
+      ≡ ((differ_from [] (map (λ (c : ColumnText). c.name.name) columns) && (are_known (items_placed catalog items) && differ_from (aliases outer) (names_of items)))
+      && no_fault rest)
   given_told outer columns items rest =
       no_fault_append (given_faults Names catalog outer columns items) rest
       ∙ ap (λ b. b && no_fault rest) (
@@ -238,19 +257,24 @@ module _ (catalog : Catalog) where
       let V = list_all (λ (c : SelectColumn). s.value_is_sound catalog items c.value) columns in
       let O = s.ons_are_sound catalog around [] from in
       let J = list_all (λ (f : s.Reach → Bool). f items) (map sound_conjunct conjuncts) in
-      let tables : list_all (λ (i : FromItem). is_some (table_named catalog i.table)) from ≡ are_known (items_placed catalog y.from) = made_known from ∙ ap are_known (made_reached catalog outer [] y.from) in
+      let tables : list_all (λ (i : FromItem). is_some (table_named catalog i.table)) from ≡ are_known (items_placed catalog y.from) = made_known from
+      ∙ ap are_known (made_reached catalog outer [] y.from) in
       let alias : differ_from (map (λ (i : FromItem). i.alias) around) (map (λ (i : FromItem). i.alias) from) ≡ differ_from (aliases outer) (names_of y.from) =
       ap (λ l. differ_from l (map (λ (i : FromItem). i.alias) from)) (aliases_around around) ∙ ap (differ_from (aliases outer)) (aliases_made outer [] y.from) in
-      let named : differ_from [] (map (λ (c : SelectColumn). c.name) columns) ≡ differ_from [] (map (λ (c : ColumnText). c.name.name) y.columns) = ap (differ_from []) (columns_named reach y.columns) in
+      let named : differ_from [] (map (λ (c : SelectColumn). c.name) columns) ≡ differ_from [] (map (λ (c : ColumnText). c.name.name) y.columns)
+      = ap (differ_from []) (columns_named reach y.columns) in
       let values : Phase → List Fault = λ phase. flat_map (λ (c : ColumnText). value_faults phase reach c.value) y.columns in
       let ons : Phase → List Fault = λ phase. on_faults phase catalog outer [] y.from in
       let inner : Phase → List Fault = λ phase. flat_map (λ (f : FaultLayer). f reach) (map (conjunct_faults phase catalog) (map conjunct_of y.conjuncts)) in
       tells_by _ _ _ _ _ _ _ _
-      (given_told outer y.columns y.from (values Names ++ (ons Names ++ inner Names)) ∙ ap (λ b. (differ_from [] (map (λ (c : ColumnText). c.name.name) y.columns) && (are_known (items_placed catalog y.from) && differ_from (aliases outer) (names_of y.from))) && b) (split (values Names) (ons Names) (inner Names)))
+      (given_told outer y.columns y.from (values Names ++ (ons Names ++ inner Names))
+      ∙ ap (λ b. (differ_from [] (map (λ (c : ColumnText). c.name.name) y.columns)
+      && (are_known (items_placed catalog y.from) && differ_from (aliases outer) (names_of y.from))) && b) (split (values Names) (ons Names) (inner Names)))
       (split (values Types) (ons Types) (inner Types))
       refl
       (ap (λ (f : s.Reach → Bool). f around) (select_sound catalog select)
-      ∙ ap (λ b. ((((b && differ_from (map (λ (i : FromItem). i.alias) around) (map (λ (i : FromItem). i.alias) from)) && differ_from [] (map (λ (c : SelectColumn). c.name) columns)) && V) && O) && J) tables
+      ∙ ap (λ b. ((((b && differ_from (map (λ (i : FromItem). i.alias) around) (map (λ (i : FromItem). i.alias) from))
+      && differ_from [] (map (λ (c : SelectColumn). c.name) columns)) && V) && O) && J) tables
       ∙ ap (λ b. ((((are_known (items_placed catalog y.from) && b) && differ_from [] (map (λ (c : SelectColumn). c.name) columns)) && V) && O) && J) alias
       ∙ ap (λ b. ((((are_known (items_placed catalog y.from) && differ_from (aliases outer) (names_of y.from)) && b) && V) && O) && J) named)
       (combine (are_known (items_placed catalog y.from)) (differ_from (aliases outer) (names_of y.from)) (differ_from [] (map (λ (c : ColumnText). c.name.name) y.columns))
@@ -260,8 +284,10 @@ module _ (catalog : Catalog) where
       let all : are_known reach ≡ true = known_append (items_placed catalog y.from) outer own known in
       let known_items : are_known (reached catalog items) ≡ true = ap are_known same ∙ all in
       tells_both _ _ _ _ _ _ _ _
-      (subst (λ r. Tells (no_fault (flat_map (λ (c : ColumnText). value_faults Names r c.value) y.columns)) (no_fault (flat_map (λ (c : ColumnText). value_faults Types r c.value) y.columns))
-      (list_all (λ (c : ColumnText). value_is_shaped c.value) y.columns) (list_all (λ (c : SelectColumn). s.value_is_sound catalog items c.value) (map (column_made r) y.columns))) same (columns_told items known_items y.columns))
+      (subst (λ r. Tells (no_fault (flat_map (λ (c : ColumnText). value_faults Names r c.value) y.columns))
+      (no_fault (flat_map (λ (c : ColumnText). value_faults Types r c.value) y.columns))
+      (list_all (λ (c : ColumnText). value_is_shaped c.value) y.columns)
+      (list_all (λ (c : SelectColumn). s.value_is_sound catalog items c.value) (map (column_made r) y.columns))) same (columns_told items known_items y.columns))
       (tells_both _ _ _ _ _ _ _ _ (ons_told around known [] refl y.from own) (subst (λ r. AllTold items r y.conjuncts) same (conjuncts_told items known_items y.conjuncts)))))
 
   pub select_told : (t : SelectText) → SelectTold t

@@ -40,7 +40,8 @@ some_length n = grind (arith, nat_tests)
 
 module _ (catalog : Catalog) where
   later_classes : (select : SelectText) (classes : List Class) (columns : List ColumnText)
-      → no_fault (cond (length classes == length columns) (differing_items catalog select classes columns) (when true code.ClassesDiffer select.word)) ≡ same_classes classes (map (column_class catalog select) columns)
+      → no_fault (cond (length classes == length columns) (differing_items catalog select classes columns) (when true code.ClassesDiffer select.word))
+      ≡ same_classes classes (map (column_class catalog select) columns)
   later_classes select [] [] = refl
   later_classes select [] (c ∷ columns) = ap (λ b. no_fault (cond b [] (when true code.ClassesDiffer select.word))) (no_length (length columns))
   later_classes select (k ∷ classes) [] = ap (λ b. no_fault (cond b [] (when true code.ClassesDiffer select.word))) (some_length (length classes))
@@ -49,10 +50,12 @@ module _ (catalog : Catalog) where
       let rest : List Fault = differing_items catalog select classes columns in
       let wrong : List Fault = when true code.ClassesDiffer select.word in
       ap (λ b. no_fault (cond b (fault ++ rest) wrong)) (next_length (length classes) (length columns))
-      ∙ by (length classes == length columns) fault rest wrong (same_class k (column_class catalog select c)) (no_fault_unless (same_class k (column_class catalog select c)) code.ClassesDiffer (span_of c.value)) refl
+      ∙ by (length classes == length columns) fault rest wrong (same_class k (column_class catalog select c))
+      (no_fault_unless (same_class k (column_class catalog select c)) code.ClassesDiffer (span_of c.value)) refl
       ∙ ap (λ b. same_class k (column_class catalog select c) && b) (later_classes select classes columns)
     where
-      by : (b : Bool) (fault rest wrong : List Fault) (same : Bool) → no_fault fault ≡ same → no_fault wrong ≡ false → no_fault (cond b (fault ++ rest) wrong) ≡ (same && no_fault (cond b rest wrong))
+      by : (b : Bool) (fault rest wrong : List Fault) (same : Bool) → no_fault fault ≡ same → no_fault wrong ≡ false → no_fault (cond b (fault ++ rest) wrong)
+          ≡ (same && no_fault (cond b rest wrong))
       by true fault rest wrong same h g = no_fault_append fault rest ∙ ap (λ x. x && no_fault rest) h
       by false fault rest wrong true h g = refl
       by false fault rest wrong false h g = g
@@ -68,7 +71,8 @@ module _ (catalog : Catalog) where
   classes_are : (t : SelectText) → classes_of (select_made catalog t []).columns ≡ column_classes catalog t
   classes_are t = ap classes_of (made_columns t) ∙ classes_made (reach_within catalog [] t.from) t.columns
 
-  later_told : (first : SelectText) (t : SelectText) → no_fault (later_faults catalog (column_classes catalog first) t) ≡ same_classes (classes_of (select_made catalog first []).columns) (classes_of (select_made catalog t []).columns)
+  later_told : (first : SelectText) (t : SelectText) → no_fault (later_faults catalog (column_classes catalog first) t)
+      ≡ same_classes (classes_of (select_made catalog first []).columns) (classes_of (select_made catalog t []).columns)
   later_told first t =
       later_classes t (column_classes catalog first) t.columns
       ∙ ap (λ l. same_classes l (column_classes catalog t)) (sym (classes_are first)) ∙ ap (same_classes (classes_of (select_made catalog first []).columns)) (sym (classes_are t))
@@ -87,7 +91,8 @@ module _ (catalog : Catalog) where
   agreed : (b : Bool) → Tells true b true b
   agreed b = record { there = λ p q r. q; names_hold = λ s. refl; types_hold = λ s. s; shape_holds = λ s. refl }
 
-  text_told : (text : SqlText) → Tells (no_fault (faults_in Names catalog text)) (no_fault (faults_in Types catalog text)) (list_all select_is_shaped text.selects) (query_is_sound catalog (query_of catalog text))
+  text_told : (text : SqlText) → Tells (no_fault (faults_in Names catalog text)) (no_fault (faults_in Types catalog text)) (list_all select_is_shaped text.selects)
+      (query_is_sound catalog (query_of catalog text))
   text_told text =
       let ts : List SelectText = text.selects in
       let names : SelectText → List Fault = λ t. select_faults Names catalog t [] in
@@ -95,11 +100,14 @@ module _ (catalog : Catalog) where
       let agree : Bool = selects_agree (map (λ t. select_made catalog t []) ts) in
       tells_by _ _ _ _ _ _ _ _
       (no_fault_append (flat_map names ts) [] ∙ ap (λ b. b && true) (no_fault_flat names ts))
-      (no_fault_append (flat_map types ts) (united_faults catalog ts) ∙ ap (λ b. b && no_fault (united_faults catalog ts)) (no_fault_flat types ts) ∙ ap (λ b. list_all (λ t. no_fault (types t)) ts && b) (united_told ts))
+      (no_fault_append (flat_map types ts) (united_faults catalog ts) ∙ ap (λ b. b && no_fault (united_faults catalog ts)) (no_fault_flat types ts)
+      ∙ ap (λ b. list_all (λ t. no_fault (types t)) ts && b) (united_told ts))
       (sym (and_true (list_all select_is_shaped ts)))
       refl
-      (tells_both (list_all (λ t. no_fault (names t)) ts) (list_all (λ t. no_fault (types t)) ts) (list_all select_is_shaped ts) (list_all (λ (k : Select). s.select_is_sound catalog k []) (map (λ t. select_made catalog t []) ts)) true agree true agree
-      (tells_all (λ t. no_fault (names t)) (λ t. no_fault (types t)) select_is_shaped (λ (k : Select). s.select_is_sound catalog k []) (λ t. select_made catalog t []) (λ t. select_told catalog t [] refl) ts)
+      (tells_both (list_all (λ t. no_fault (names t)) ts) (list_all (λ t. no_fault (types t)) ts) (list_all select_is_shaped ts)
+      (list_all (λ (k : Select). s.select_is_sound catalog k []) (map (λ t. select_made catalog t []) ts)) true agree true agree
+      (tells_all (λ t. no_fault (names t)) (λ t. no_fault (types t)) select_is_shaped (λ (k : Select). s.select_is_sound catalog k []) (λ t. select_made catalog t [])
+      (λ t. select_told catalog t [] refl) ts)
       (agreed agree))
 
   neither : (a b : Option Fault) → or_then a b ≡ None → (a ≡ None) × (b ≡ None)

@@ -60,10 +60,12 @@ module _ {L : Type 0} (leaf : L → Class) where
   abbrev classes_of : List Child → List Class
   classes_of cs = map (λ (j : Judgement). j.class) (map (judged leaf) (map bare cs))
 
-  operand_told : (d : Demand) (c : Child) (spans : List Span) → no_fault (operand_faults (Some d) (typed_of c) spans) ≡ (no_fault ((typed_of c).faults spans) && same_class d.class (judged leaf c.0).class)
+  operand_told : (d : Demand) (c : Child) (spans : List Span) → no_fault (operand_faults (Some d) (typed_of c) spans)
+      ≡ (no_fault ((typed_of c).faults spans) && same_class d.class (judged leaf c.0).class)
   operand_told d c spans =
       no_fault_append ((typed_of c).faults spans) (mismatch (Some d) (typed_of c).class (first_span spans))
-      ∙ ap (λ b. no_fault ((typed_of c).faults spans) && b) (no_fault_unless (same_class d.class (typed_of c).class) d.code (first_span spans) ∙ ap (same_class d.class) (same_classes c.0))
+      ∙ ap (λ b. no_fault ((typed_of c).faults spans) && b) (no_fault_unless (same_class d.class (typed_of c).class) d.code (first_span spans)
+      ∙ ap (same_class d.class) (same_classes c.0))
 
   operands_told : (d : Demand) (cs : List Child) (spans : List Span)
       → (no_fault (operands_faults (Some d) (map (typed leaf) (map bare cs)) spans) && shape_of cs) ≡ (kept_of cs && list_all (same_class d.class) (classes_of cs))
@@ -72,17 +74,21 @@ module _ {L : Type 0} (leaf : L → Class) where
       let behind : List Span = drop (typed_of c).nodes spans in
       ap (λ b. b && shape_of (c ∷ cs)) (no_fault_append (operand_faults (Some d) (typed_of c) spans) (operands_faults (Some d) (map (typed leaf) (map bare cs)) behind)
       ∙ ap (λ b. b && no_fault (operands_faults (Some d) (map (typed leaf) (map bare cs)) behind)) (operand_told d c spans))
-      ∙ regrouped (no_fault ((typed_of c).faults spans)) (same_class d.class (judged leaf c.0).class) (no_fault (operands_faults (Some d) (map (typed leaf) (map bare cs)) behind)) (is_shaped c.0) (shape_of cs)
+      ∙ regrouped (no_fault ((typed_of c).faults spans)) (same_class d.class (judged leaf c.0).class)
+      (no_fault (operands_faults (Some d) (map (typed leaf) (map bare cs)) behind)) (is_shaped c.0) (shape_of cs)
       (judged leaf c.0).kept (kept_of cs) (list_all (same_class d.class) (classes_of cs)) (same_class d.class (judged leaf c.0).class) (c.1 spans) (operands_told d cs behind) refl
 
   differing_told : (c : Child) (cs : List Child) (spans : List Span)
-      → (no_fault (differing (map (typed leaf) (map bare (c ∷ cs))) spans) && shape_of (c ∷ cs)) ≡ (kept_of (c ∷ cs) && list_all (same_class (judged leaf c.0).class) (classes_of cs))
+      → (no_fault (differing (map (typed leaf) (map bare (c ∷ cs))) spans) && shape_of (c ∷ cs))
+      ≡ (kept_of (c ∷ cs) && list_all (same_class (judged leaf c.0).class) (classes_of cs))
   differing_told c cs spans =
       let behind : List Span = drop (typed_of c).nodes spans in
-      ap (λ b. b && shape_of (c ∷ cs)) (no_fault_append (operand_faults None (typed_of c) spans) (operands_faults (class_asked (typed_of c).class) (map (typed leaf) (map bare cs)) behind)
+      ap (λ b. b && shape_of (c ∷ cs)) (no_fault_append (operand_faults None (typed_of c) spans)
+      (operands_faults (class_asked (typed_of c).class) (map (typed leaf) (map bare cs)) behind)
       ∙ ap (λ b. b && no_fault (operands_faults (class_asked (typed_of c).class) (map (typed leaf) (map bare cs)) behind)) (no_fault_append ((typed_of c).faults spans) [])
       ∙ ap (λ k. (no_fault ((typed_of c).faults spans) && true) && no_fault (operands_faults (class_asked k) (map (typed leaf) (map bare cs)) behind)) (same_classes c.0))
-      ∙ regrouped (no_fault ((typed_of c).faults spans)) true (no_fault (operands_faults (class_asked (judged leaf c.0).class) (map (typed leaf) (map bare cs)) behind)) (is_shaped c.0) (shape_of cs)
+      ∙ regrouped (no_fault ((typed_of c).faults spans)) true (no_fault (operands_faults (class_asked (judged leaf c.0).class) (map (typed leaf) (map bare cs)) behind))
+      (is_shaped c.0) (shape_of cs)
       (judged leaf c.0).kept (kept_of cs) (list_all (same_class (judged leaf c.0).class) (classes_of cs)) true (c.1 spans)
       (operands_told (record { class = (judged leaf c.0).class; code = code.ClassesDiffer }) cs behind) refl
 
@@ -138,14 +144,16 @@ module _ {L : Type 0} (leaf : L → Class) where
   layer (Expr-F.Is a test.Unknown n) spans = one_told truth_asked (same_class Truth) (λ k s. no_fault_unless (same_class Truth k) code.NotTruth s) a (without_first spans)
   layer (Expr-F.InList a es n) spans =
       let behind : List Span = without_first spans in
-      among (no_fault (differing (map (typed leaf) (map bare (a ∷ es))) behind)) (shape_of (a ∷ es)) (is_filled (map is_shaped (map bare es))) (kept_of (a ∷ es)) (list_all (same_class (judged leaf a.0).class) (classes_of es))
+      among (no_fault (differing (map (typed leaf) (map bare (a ∷ es))) behind)) (shape_of (a ∷ es)) (is_filled (map is_shaped (map bare es))) (kept_of (a ∷ es))
+      (list_all (same_class (judged leaf a.0).class) (classes_of es))
       (differing_told a es behind)
       ∙ ap (λ f. kept_of (a ∷ es) && (f && list_all (same_class (judged leaf a.0).class) (classes_of es))) (filled es)
   layer (Expr-F.Between a b c n) spans =
       let behind : List Span = without_first spans in
       ap (λ s. no_fault (differing (map (typed leaf) (map bare (a ∷ b ∷ c ∷ []))) behind) && s) (and_true (shape_of (a ∷ b ∷ c ∷ [])))
       ∙ differing_told a (b ∷ c ∷ []) behind
-      ∙ ap (λ s. kept_of (a ∷ b ∷ c ∷ []) && (same_class (judged leaf a.0).class (judged leaf b.0).class && s)) (and_true (same_class (judged leaf a.0).class (judged leaf c.0).class))
+      ∙ ap (λ s. kept_of (a ∷ b ∷ c ∷ []) && (same_class (judged leaf a.0).class (judged leaf b.0).class && s))
+      (and_true (same_class (judged leaf a.0).class (judged leaf c.0).class))
   layer (Expr-F.Coalesce []) spans = refl
   layer (Expr-F.Coalesce (e ∷ es)) spans =
       let behind : List Span = without_first spans in

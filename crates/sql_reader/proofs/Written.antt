@@ -9,7 +9,8 @@ use Rattle.expr_tree.specs.declared.tree.Expr.TheVariants as e
 use Rattle.expr_tree.specs.Classes.{same_class, class_in}
 use Rattle.expr_tree.specs.Mapping.{mapped, map_step}
 use Rattle.expr_tree.proofs.Folds.{fused}
-use Rattle.expr_tree.proofs.MapLemmas.{mapped-Lit, mapped-Null, mapped-Leaf, mapped-Compare, mapped-All, mapped-Any, mapped-Not, mapped-Is, mapped-InList, mapped-Between, mapped-Coalesce}
+use Rattle.expr_tree.proofs.MapLemmas.{mapped-Lit, mapped-Null, mapped-Leaf, mapped-Compare, mapped-All, mapped-Any, mapped-Not, mapped-Is, mapped-InList, mapped-Between}
+use Rattle.expr_tree.proofs.MapLemmas.{mapped-Coalesce}
 use Rattle.graph_ast.specs.declared.catalog.Catalog.{Catalog}
 use Rattle.graph_ast.specs.declared.catalog.Table.{Table}
 use Rattle.graph_ast.specs.declared.catalog.Column.{Column}
@@ -28,7 +29,8 @@ use Rattle.sql_algebra.specs.declared.text.ColumnText.{ColumnText}
 use Rattle.sql_algebra.specs.declared.text.ItemText.{ItemText}
 use Rattle.sql_algebra.specs.declared.text.ColumnRef.{ColumnRef}
 use Rattle.sql_algebra.specs.Catalogs.{table_named, column_named}
-use Rattle.sql_algebra.specs.Meant.{bare_leaf, bare_value, bare_column, bare_item, bare_conjunct_step, bare_select_step, bare_conjunct, bare_select, told_value, told_column, told_item, told_conjunct_step, told_select_step, told_conjunct, told_select}
+use Rattle.sql_algebra.specs.Meant.{bare_leaf, bare_value, bare_column, bare_item, bare_conjunct_step, bare_select_step, bare_conjunct, bare_select, told_value, told_column}
+use Rattle.sql_algebra.specs.Meant.{told_item, told_conjunct_step, told_select_step, told_conjunct, told_select}
 use Rattle.sql_algebra.specs.Soundness as s
 use Rattle.sql_algebra.specs.Soundness.{value_is_sound, condition_is_sound, on_is_sound, ons_are_sound, leaf_class, IsSound}
 use Rattle.sql_algebra.proofs.Spaced.{both}
@@ -118,7 +120,8 @@ module _ (catalog : Catalog) (reach : s.Reach) where
   columns_back (v ∷ vs) (x ∷ xs) h same =
       let p = both (value_is_sound catalog reach x.value) (list_all (λ (k : SelectColumn). value_is_sound catalog reach k.value) xs) h in
       let first : told_column v ≡ bare_column x = heads (told_column v) (bare_column x) (map told_column vs) (map bare_column xs) same in
-      ap (λ w. let z : SelectColumn = record { value = w; name = v.name.name } in z ∷ map (column_made seen) vs) (value_back v.value x.value p.0 (ap (λ (k : SelectColumn). k.value) first))
+      ap (λ w. let z : SelectColumn = record { value = w; name = v.name.name } in z ∷ map (column_made seen) vs)
+      (value_back v.value x.value p.0 (ap (λ (k : SelectColumn). k.value) first))
       ∙ ap (λ n. let z : SelectColumn = record { value = x.value; name = n } in z ∷ map (column_made seen) vs) (ap (λ (k : SelectColumn). k.name) first)
       ∙ ap (λ l. x ∷ l) (columns_back vs xs p.1 (tails (told_column v) (bare_column x) (map told_column vs) (map bare_column xs) same))
 
@@ -158,7 +161,8 @@ module _ (catalog : Catalog) where
       let p = both (on_is_sound catalog (next ++ outer) x.on) (ons_are_sound catalog outer next xs) h in
       ap (λ r. item_made (r ++ around) i ∷ items_made catalog around r items) chain
       ∙ ap (λ r. item_made r i ∷ items_made catalog around (reached catalog next) items) (sym (reached_append catalog next outer))
-      ∙ ap (λ z. z ∷ items_made catalog around (reached catalog next) items) (item_back (reached catalog (next ++ outer)) i x first (on_back catalog (next ++ outer) i.on x.on p.0 ons))
+      ∙ ap (λ z. z ∷ items_made catalog around (reached catalog next) items)
+      (item_back (reached catalog (next ++ outer)) i x first (on_back catalog (next ++ outer) i.on x.on p.0 ons))
       ∙ ap (λ l. x ∷ l) (from_back outer next items xs p.1 (tails (told_item i) (bare_item x) (map told_item items) (map bare_item xs) same))
 
   -- ---- conjuncts and selects
@@ -252,7 +256,8 @@ module _ (catalog : Catalog) where
       let inside : Reach = reached catalog (o.from ++ outer) in
       let gathered : Reach → List Conjunct = λ r. map (λ (f : Reach → Conjunct). f r) (map (conjunct_made catalog) (map conjunct_of y.conjuncts)) in
       ap (λ r. with_parts (map (column_made r) y.columns) (items_made catalog around [] y.from) (gathered r)) at
-      ∙ ap (λ l. with_parts l (items_made catalog around [] y.from) (gathered inside)) (columns_back catalog (o.from ++ outer) y.columns o.columns p.columns (ap (λ (x : Select). x.columns) same))
+      ∙ ap (λ l. with_parts l (items_made catalog around [] y.from) (gathered inside))
+      (columns_back catalog (o.from ++ outer) y.columns o.columns p.columns (ap (λ (x : Select). x.columns) same))
       ∙ ap (λ l. with_parts o.columns l (gathered inside)) from
       ∙ ap (λ l. with_parts o.columns o.from l) (conjuncts_back (o.from ++ outer) y.conjuncts o.conjuncts p.conjuncts (ap (λ (x : Select). x.conjuncts) same))
 

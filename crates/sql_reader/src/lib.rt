@@ -9,8 +9,6 @@ mod queries;
 mod reach;
 mod reading;
 mod tables;
-#[cfg(test)]
-mod tests;
 mod types;
 mod unions;
 

@@ -1,5 +1,6 @@
 -- What stands in the instance of some files.
-use Rattle.std.proofs.Common.{◌≡◌, ℕ, zero, suc, ◌+◌, ◌<◌, ◌≤◌, Bool, true, false, cond, List, [], ◌∷◌, map, length, set, Option, None, Some, Result, Ok, Err, inl, inr, refl, sym, ap, ◌∙◌, subst, arith, get_or-set_same, get_or-set_other}
+use Rattle.std.proofs.Common.{◌≡◌, ℕ, zero, suc, ◌+◌, ◌<◌, ◌≤◌, Bool, true, false, cond, List, [], ◌∷◌, map, length, set, Option, None, Some, Result, Ok, Err, inl, inr, refl}
+use Rattle.std.proofs.Common.{sym, ap, ◌∙◌, subst, arith, get_or-set_same, get_or-set_other}
 use Rattle.std.specs.Prelude.{All, nat_le}
 use Rattle.std.proofs.lemmas.List.{length-map, length-set}
 use Rattle.std.proofs.lemmas.List.Sums.{sum_by-cons}
@@ -14,7 +15,8 @@ use Rattle.graph_ast.specs.Lookups.{table_at}
 use Rattle.csv_tables.specs.Constraints.{instance_refusal}
 use Rattle.csv_tables.specs.Reading.{table_rows}
 use Rattle.table_files.specs.declared.files.TableText.{TableText}
-use Rattle.table_files.specs.TableFiles.{RowsRead, rows_read, none_read, most_bytes, too_large, added, file_read, and_then, files_read, unless, instance_checked, instance_due, tables_in, bytes_in, IsGivenBy}
+use Rattle.table_files.specs.TableFiles.{RowsRead, rows_read, none_read, most_bytes, too_large, added, file_read, and_then, files_read, unless, instance_checked, instance_due}
+use Rattle.table_files.specs.TableFiles.{tables_in, bytes_in, IsGivenBy}
 
 -- ---- one file
 
@@ -29,7 +31,8 @@ record IsRead (catalog : Catalog) (read : RowsRead) (place : ℕ) (bytes : List 
   few : read.bytes + length bytes ≤ most_bytes
 
 module _ (catalog : Catalog) (read : RowsRead) (place : ℕ) (bytes : List ℕ) (more : RowsRead) where
-  of_rows : (r : Result TableRows Refusal) → table_rows bytes (table_at catalog place) ≡ r → read.bytes + length bytes ≤ most_bytes → added read place (length bytes) r ≡ Ok more → IsRead catalog read place bytes more
+  of_rows : (r : Result TableRows Refusal) → table_rows bytes (table_at catalog place) ≡ r → read.bytes + length bytes ≤ most_bytes → added read place (length bytes) r
+      ≡ Ok more → IsRead catalog read place bytes more
   of_rows (Err refusal) is few h = absurd cc
   of_rows (Ok rows) is few h =
       let same : rows_read (set read.tables place rows) (read.bytes + length bytes) ≡ more = cc in
@@ -39,7 +42,8 @@ module _ (catalog : Catalog) (read : RowsRead) (place : ℕ) (bytes : List ℕ) 
   one_read h = by (nat_le (read.bytes + length bytes) most_bytes) refl h
     where
       by : (t : Bool) → nat_le (read.bytes + length bytes) most_bytes ≡ t
-          → cond t (added read place (length bytes) (table_rows bytes (table_at catalog place))) (Err (too_large (table_at catalog place).name)) ≡ Ok more → IsRead catalog read place bytes more
+          → cond t (added read place (length bytes) (table_rows bytes (table_at catalog place))) (Err (too_large (table_at catalog place).name)) ≡ Ok more
+          → IsRead catalog read place bytes more
       by true e h = of_rows (table_rows bytes (table_at catalog place)) refl (within_size (read.bytes + length bytes) e) h
       by false e h = absurd cc
 

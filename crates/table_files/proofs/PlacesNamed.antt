@@ -1,5 +1,6 @@
 -- The places of tables, one word after another.
-use Rattle.std.proofs.Common.{◌≡◌, ℕ, zero, suc, ◌+◌, ◌<◌, nat_eq, Bool, true, false, not, ◌&&◌, cond, List, [], ◌∷◌, ◌++◌, length, drop, get_or, Option, None, Some, refl, sym, ap, ◌∙◌, arith, append_assoc, append-nil}
+use Rattle.std.proofs.Common.{◌≡◌, ℕ, zero, suc, ◌+◌, ◌<◌, nat_eq, Bool, true, false, not, ◌&&◌, cond, List, [], ◌∷◌, ◌++◌, length, drop, get_or, Option, None, Some, refl, sym}
+use Rattle.std.proofs.Common.{ap, ◌∙◌, arith, append_assoc, append-nil}
 use Rattle.std.specs.Prelude.{◌||◌, All, option_and_then, bytes_eq}
 use Rattle.std.specs.List.{list_any}
 use Rattle.std.proofs.lemmas.List.{drop_more, length-append}
@@ -58,7 +59,8 @@ repeated (x ∷ xs) p more h = by (nat_eq p x) refl (repeated xs p more)
     by : (t : Bool) → nat_eq p x ≡ t → (list_any (nat_eq p) xs ≡ true → all_different nat_eq (xs ++ p ∷ more) ≡ false) → all_different nat_eq (x ∷ xs ++ p ∷ more) ≡ false
     by true e later =
         let here : nat_eq x p ≡ true = nat_eq_turned x p ∙ e in
-        let there : list_any (nat_eq x) (xs ++ p ∷ more) ≡ true = list_any-append (nat_eq x) xs (p ∷ more) ∙ ap (λ t. list_any (nat_eq x) xs || (t || list_any (nat_eq x) more)) here
+        let there : list_any (nat_eq x) (xs ++ p ∷ more) ≡ true = list_any-append (nat_eq x) xs (p ∷ more)
+        ∙ ap (λ t. list_any (nat_eq x) xs || (t || list_any (nat_eq x) more)) here
         ∙ or_true (list_any (nat_eq x) xs) (list_any (nat_eq x) more) in
         ap (λ t. not t && all_different nat_eq (xs ++ p ∷ more)) there
     by false e later =
@@ -99,7 +101,8 @@ within_more n [] p all here (suc k) d h = absurd (omega arith)
 within_more n (x ∷ xs) p all here zero d h = all 0 x (omega arith)
 within_more n (x ∷ xs) p all here (suc k) d h = within_more n xs p (λ j e low. all (suc j) e (omega arith)) here k d (omega arith)
 
-module _ (catalog : Catalog) (words : List TableWord) (i : ℕ) (word : TableWord) (h : i < length words) (is : word ≡ get_or words i word) (done : List ℕ) (so_far : Placed catalog words i done) where
+module _ (catalog : Catalog) (words : List TableWord) (i : ℕ) (word : TableWord) (h : i < length words) (is : word ≡ get_or words i word) (done : List ℕ)
+    (so_far : Placed catalog words i done) where
   named_now : places_named catalog words ≡ ahead done (put_first (table_place catalog word.table) (places_named catalog (drop (i + 1) words)))
   named_now =
       so_far.named ∙ ap (λ l. ahead done (places_named catalog l)) (drop_more words i word h)
@@ -131,7 +134,8 @@ module _ (catalog : Catalog) (words : List TableWord) (i : ℕ) (word : TableWor
       sym (ap (option_and_then apart) (named_now ∙ ap (λ o. ahead done (put_first o (places_named catalog (drop (i + 1) words)))) (sym found))
       ∙ not_apart p again (places_named catalog (drop (i + 1) words)))
 
-pub all_placed : (catalog : Catalog) (words : List TableWord) (i : ℕ) (done : List ℕ) → Placed catalog words i done → places_named catalog (drop i words) ≡ Some [] → Some done ≡ table_places catalog words
+pub all_placed : (catalog : Catalog) (words : List TableWord) (i : ℕ) (done : List ℕ) → Placed catalog words i done → places_named catalog (drop i words) ≡ Some [] → Some done
+    ≡ table_places catalog words
 all_placed catalog words i done so_far none =
     let whole : places_named catalog words ≡ Some done = so_far.named ∙ ap (ahead done) none ∙ ap Some (append-nil done) in
     sym (ap (option_and_then apart) whole ∙ ap (λ b. cond b (Some done) None) so_far.differ)

@@ -1,5 +1,6 @@
 -- What a word asks for, by the place of its first `=` outside quotes.
-use Rattle.std.proofs.Common.{◌≡◌, ◌↔◌, ℕ, ◌+◌, ◌-◌, ◌<◌, ◌≤◌, false, List, ◌∷◌, length, take, drop, Option, None, Some, option_map, Result, Ok, Err, IfOk, refl, sym, ap, ◌∙◌, subst, arith, length-append, length-drop}
+use Rattle.std.proofs.Common.{◌≡◌, ◌↔◌, ℕ, ◌+◌, ◌-◌, ◌<◌, ◌≤◌, false, List, ◌∷◌, length, take, drop, Option, None, Some, option_map, Result, Ok, Err, IfOk, refl, sym, ap, ◌∙◌}
+use Rattle.std.proofs.Common.{subst, arith, length-append, length-drop}
 use Rattle.std.proofs.Math.Seq.{take-append_seam}
 use Rattle.pgq_base.specs.Files.{after_equals, equals_sign}
 use Rattle.table_words.specs.declared.word.TableWord.{TableWord}
@@ -24,16 +25,19 @@ module _ (word : List ℕ) where
       let some : 1 ≤ length asked.file = is.some in
       absurd (omega arith)
 
-  pub no_name : (place : ℕ) → place < length word → Some (drop (place + 1) word) ≡ after_equals false word → Names (take place word) None → (asked : TableWord) → IsTableWord word asked → ⊥
+  pub no_name : (place : ℕ) → place < length word → Some (drop (place + 1) word) ≡ after_equals false word → Names (take place word) None → (asked : TableWord)
+      → IsTableWord word asked → ⊥
   no_name place within file none asked is =
       let same : length (drop (place + 1) word) ≡ length asked.file = ap length (same_file place file asked is) in
       let whole : length word ≡ length is.identifier + length (equals_sign ∷ asked.file) = ap length is.split ∙ length-append is.identifier (equals_sign ∷ asked.file) in
       let left : length (drop (place + 1) word) ≡ length word - (place + 1) = length-drop (place + 1) word in
       let here : length is.identifier ≡ place = omega arith in
-      let front : take place word ≡ is.identifier = ap (λ n. take n word) (sym here) ∙ ap (take (length is.identifier)) is.split ∙ take-append_seam is.identifier (equals_sign ∷ asked.file) in
+      let front : take place word ≡ is.identifier = ap (λ n. take n word) (sym here) ∙ ap (take (length is.identifier)) is.split
+      ∙ take-append_seam is.identifier (equals_sign ∷ asked.file) in
       none asked.table (subst (λ t. IsIdentifier t asked.table) (sym front) is.names)
 
-  pub by_form : {E : Type 0} → ((asked : TableWord) → (table_word word ≡ Some asked) ↔ IsTableWord word asked) → (result : Result (Option TableWord) E) → IfOk result (AsksFor word) → IfOk result (λ asked. asked ≡ table_word word)
+  pub by_form : {E : Type 0} → ((asked : TableWord) → (table_word word ≡ Some asked) ↔ IsTableWord word asked) → (result : Result (Option TableWord) E)
+      → IfOk result (AsksFor word) → IfOk result (λ asked. asked ≡ table_word word)
   by_form tells (Ok (Some asked)) is = sym ((tells asked).1 is)
   by_form tells (Ok None) none = nothing (table_word word) refl
     where

@@ -142,11 +142,13 @@ past_content : (c rest : List ℕ) → after_equals true (doubled name_quote c +
 past_content [] rest = refl
 past_content (b ∷ c) rest = by_quote (past_content c rest) (b == name_quote) refl
   where
-    by_sign : after_equals true (doubled name_quote c ++ rest) ≡ after_equals true rest → (b == name_quote) ≡ false → (t : Bool) → (b == equals_sign) ≡ t → after_equals true (doubled name_quote (b ∷ c) ++ rest) ≡ after_equals true rest
+    by_sign : after_equals true (doubled name_quote c ++ rest) ≡ after_equals true rest → (b == name_quote) ≡ false → (t : Bool) → (b == equals_sign) ≡ t
+        → after_equals true (doubled name_quote (b ∷ c) ++ rest) ≡ after_equals true rest
     by_sign more q true e = rw (q, q, e) more
     by_sign more q false e = rw (q, q, e) more
 
-    by_quote : after_equals true (doubled name_quote c ++ rest) ≡ after_equals true rest → (t : Bool) → (b == name_quote) ≡ t → after_equals true (doubled name_quote (b ∷ c) ++ rest) ≡ after_equals true rest
+    by_quote : after_equals true (doubled name_quote c ++ rest) ≡ after_equals true rest → (t : Bool) → (b == name_quote) ≡ t
+        → after_equals true (doubled name_quote (b ∷ c) ++ rest) ≡ after_equals true rest
     by_quote more true e = rw (e, e) more
     by_quote more false e = by_sign more e (b == equals_sign) refl
 

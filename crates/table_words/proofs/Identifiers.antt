@@ -1,9 +1,11 @@
 -- A text that is one identifier is one piece: a word or a delimited name.
-use Rattle.std.proofs.Common.{◌≡◌, ℕ, ◌+◌, ◌*◌, ◌≤◌, ◌<◌, ◌==◌, ◌||◌, ◌&&◌, nat_lt, Bool, true, false, List, [], ◌∷◌, ◌++◌, length, Option, None, Some, is_none, refl, sym, ap, ◌∙◌, subst, arith, append-nil, length-append, zero-add}
+use Rattle.std.proofs.Common.{◌≡◌, ℕ, ◌+◌, ◌*◌, ◌≤◌, ◌<◌, ◌==◌, ◌||◌, ◌&&◌, nat_lt, Bool, true, false, List, [], ◌∷◌, ◌++◌, length, Option, None, Some, is_none, refl, sym, ap}
+use Rattle.std.proofs.Common.{◌∙◌, subst, arith, append-nil, length-append, zero-add}
 use Rattle.std.proofs.lemmas.Bool.Decides.{nat_tests}
 use Rattle.sql_lexer.specs.declared.token.Token.{Token}
 use Rattle.sql_lexer.specs.declared.token.Kind.{Kind}
-use Rattle.sql_lexer.specs.Pieces.{Piece, Space, LineComment, BlockComment, Word, Number, Decimal, Delimited, Literal, Symbol, bytes_of, doubled, name_quote, IsPiece, Stands, IsCut}
+use Rattle.sql_lexer.specs.Pieces.{Piece, Space, LineComment, BlockComment, Word, Number, Decimal, Delimited, Literal, Symbol, bytes_of, doubled, name_quote, IsPiece, Stands}
+use Rattle.sql_lexer.specs.Pieces.{IsCut}
 use Rattle.sql_lexer.specs.Faults.{fault_of}
 use Rattle.sql_lexer.specs.Tokens.{kind_of, token, tokens_from, are_sound}
 use Rattle.sql_lexer.specs.Texts.{AreTokens}
@@ -116,7 +118,8 @@ pub record IsOnePiece (text name : List ℕ) : Type 0 where
   pub bytes : text ≡ bytes_of piece
   pub names : Named piece name
 
-of_pieces : (ps : List Piece) (text name : List ℕ) (k : Kind) → IsCut ps text [] → are_sound ps ≡ true → token 0 (length text) k ∷ [] ≡ tokens_from 0 ps → name_of k ≡ Some name → IsOnePiece text name
+of_pieces : (ps : List Piece) (text name : List ℕ) (k : Kind) → IsCut ps text [] → are_sound ps ≡ true → token 0 (length text) k ∷ [] ≡ tokens_from 0 ps → name_of k ≡ Some name
+    → IsOnePiece text name
 of_pieces [] text name k cut sound among named = absurd cc
 of_pieces (p ∷ ps) text name k (after, here, more) sound among named = by_kind (kind_of p) refl
   where

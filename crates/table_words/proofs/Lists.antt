@@ -1,5 +1,6 @@
 -- Words one after another.
-use Rattle.std.proofs.Common.{◌≡◌, inl, inr, ℕ, zero, suc, ◌+◌, ◌<◌, ◌≤◌, zero-add, true, false, List, [], ◌∷◌, ◌++◌, length, drop, get_or, Option, None, Some, refl, sym, ap, ◌∙◌, subst, arith, append_assoc}
+use Rattle.std.proofs.Common.{◌≡◌, inl, inr, ℕ, zero, suc, ◌+◌, ◌<◌, ◌≤◌, zero-add, true, false, List, [], ◌∷◌, ◌++◌, length, drop, get_or, Option, None, Some, refl, sym, ap}
+use Rattle.std.proofs.Common.{◌∙◌, subst, arith, append_assoc}
 use Rattle.std.specs.Prelude.{All, bytes_eq, slice_get}
 use Rattle.std.proofs.lemmas.Slice.Eq.{bytes_eq-Decides}
 use Rattle.std.proofs.lemmas.List.{drop_more}
@@ -57,7 +58,8 @@ of_word (word ∷ words) asked e table h = by (table_word word) (table_words wor
     later : IsOfWord words table → IsOfWord (word ∷ words) table
     later w = record { place = suc w.place; word = w.word; there = w.there; asks = w.asks }
 
-    pick : (one : TableWord) (others : List TableWord) → table_word word ≡ Some one → (IsIn table others → IsOfWord words table) → IsIn table (one ∷ others) → IsOfWord (word ∷ words) table
+    pick : (one : TableWord) (others : List TableWord) → table_word word ≡ Some one → (IsIn table others → IsOfWord words table) → IsIn table (one ∷ others)
+        → IsOfWord (word ∷ words) table
     pick one others f more (inl e) = record { place = 0; word = word; there = refl; asks = f ∙ ap Some e }
     pick one others f more (inr k) = later (more k)
 
@@ -95,7 +97,8 @@ pub asked_files : FoundStands → (words : List (List ℕ)) (asked : List TableW
 asked_files found words asked other e k d h = asked_file found words asked other e (get_or asked k d) (in_at asked k d h)
 
 -- the first word is another one than `sample`
-pub other_command : (words : List (List ℕ)) (command : List ℕ) → 1 ≤ length words → command ≡ get_or words 0 command → bytes_eq command sample_word ≡ false → slice_get words 0 ≡ Some sample_word → ⊥
+pub other_command : (words : List (List ℕ)) (command : List ℕ) → 1 ≤ length words → command ≡ get_or words 0 command → bytes_eq command sample_word ≡ false → slice_get words 0
+    ≡ Some sample_word → ⊥
 other_command [] command some is differs e = absurd (omega arith)
 other_command (word ∷ words) command some is differs e =
     let same : command ≡ sample_word = is ∙ inside e in

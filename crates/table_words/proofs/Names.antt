@@ -62,6 +62,7 @@ module _ (text : List ℕ) where
       let same : t ∷ u ∷ more ≡ token 0 (length text) is.kind ∷ [] = tokens_unique text (t ∷ u ∷ more) (token 0 (length text) is.kind ∷ []) are is.tokens in
       cc
 
-  pub of_tokens : {E : Type 0} (ts : List Token) (result : Result (Option (List ℕ)) E) → AreTokens text ts → IfOk result (λ name. name ≡ name_alone (length text) ts) → IfOk result (Names text)
+  pub of_tokens : {E : Type 0} (ts : List Token) (result : Result (Option (List ℕ)) E) → AreTokens text ts → IfOk result (λ name. name ≡ name_alone (length text) ts)
+      → IfOk result (Names text)
   of_tokens ts (Ok name) are is = subst (Names text) (sym is) (named_by ts are)
   of_tokens ts (Err e) are is = tt

@@ -52,7 +52,8 @@ module _ {T V : Type 0} (opens closes : T → Bool) (grammar : ℕ → Grammar T
   too_many limit x h l = let e : behind opens closes limit x ≡ limit + 1 = ap (λ b. choose b (limit + 1) (choose (closes x) (limit - 1) limit)) h in omega (arith, e, l)
 
   -- nothing goes on past a fault, within the limit
-  stopped : (limit : ℕ) (c : Cause) (ts read : List T) (x : T) (rest more : List T) → Stops opens closes grammar limit c read (x ∷ rest) → ts ≡ read ++ x ∷ more → BeginsAny grammar ts → Stays opens closes limit 0 ts → ⊥
+  stopped : (limit : ℕ) (c : Cause) (ts read : List T) (x : T) (rest more : List T) → Stops opens closes grammar limit c read (x ∷ rest) → ts ≡ read ++ x ∷ more
+      → BeginsAny grammar ts → Stays opens closes limit 0 ts → ⊥
   stopped limit unexpected ts read x rest more h e b s = h.1 (next_begun ts read x more e b)
   stopped limit too_deep ts read x rest more h e b s =
       let l : behind opens closes (opened opens closes 0 read) x ≤ limit = Stays-at opens closes limit 0 read x more (subst (Stays opens closes limit 0) e s) in
@@ -67,19 +68,26 @@ module _ {T V : Type 0} (opens closes : T → Bool) (grammar : ℕ → Grammar T
   same_cause limit too_deep unexpected read (x ∷ rest) h k = absurd (k.1 h.0)
 
   module _ (limit : ℕ) (ts : List T) where
-    passed : (c d : Cause) (rest left : List T) (f : FirstFault opens closes grammar limit ts c rest) (g : FirstFault opens closes grammar limit ts d left) → Further f.read rest g.read left → ⊥
+    passed : (c d : Cause) (rest left : List T) (f : FirstFault opens closes grammar limit ts c rest) (g : FirstFault opens closes grammar limit ts d left)
+        → Further f.read rest g.read left → ⊥
     passed c d rest left f g w =
-        stopped limit c g.read f.read w.item (w.items ++ left) w.items (subst (Stops opens closes grammar limit c f.read) w.left f.stops) w.longer (read_begun limit d g.read left g.stops) g.shallow
+        stopped limit c g.read f.read w.item (w.items ++ left) w.items (subst (Stops opens closes grammar limit c f.read) w.left f.stops) w.longer
+        (read_begun limit d g.read left g.stops) g.shallow
 
     -- the first fault is one
     pub one_fault : (c d : Cause) (rest left : List T) → FirstFault opens closes grammar limit ts c rest → FirstFault opens closes grammar limit ts d left → (c ≡ d) × (rest ≡ left)
     one_fault c d rest left f g = by_cuts (cuts f.read rest g.read left (sym f.text ∙ g.text)) where
       by_cuts : Cuts f.read rest g.read left → (c ≡ d) × (rest ≡ left)
-      by_cuts (inl h) = (same_cause limit c d g.read left (subst (λ l. Stops opens closes grammar limit c l left) h.0 (subst (Stops opens closes grammar limit c f.read) h.1 f.stops)) g.stops, h.1)
+      by_cuts (inl h) = (
+        same_cause limit c d g.read left
+            (subst (λ l. Stops opens closes grammar limit c l left) h.0 (subst (Stops opens closes grammar limit c f.read) h.1 f.stops)) g.stops,
+        h.1,
+      )
       by_cuts (inr (inl w)) = absurd (passed c d rest left f g w)
       by_cuts (inr (inr w)) = absurd (passed d c left rest g f w)
 
-    at_rest : (v : V) → SpellsAny grammar ts v → Stays opens closes limit 0 ts → (c : Cause) (read rest : List T) → ts ≡ read ++ rest → Stops opens closes grammar limit c read rest → ⊥
+    at_rest : (v : V) → SpellsAny grammar ts v → Stays opens closes limit 0 ts → (c : Cause) (read rest : List T) → ts ≡ read ++ rest
+        → Stops opens closes grammar limit c read rest → ⊥
     at_rest v s l unexpected read [] e h = h.1 v (subst (λ t. SpellsAny grammar t v) (e ∙ append-nil read) s)
     at_rest v s l too_deep read [] e h = h
     at_rest v s l c read (x ∷ rest) e h = stopped limit c ts read x rest rest h e (begun ts v s) l

@@ -1,5 +1,6 @@
 -- What the classes of tokens tell.
-use Rattle.std.proofs.Common.{◌≡◌, refl, ℕ, zero, suc, ◌^◌, ◌<◌, Bool, true, false, not, ◌==◌, nat_lt, cond, Option, None, Some, List, [], ◌∷◌, map, length, get_or, bytes_eq, is_some, arith}
+use Rattle.std.proofs.Common.{◌≡◌, refl, ℕ, zero, suc, ◌^◌, ◌<◌, Bool, true, false, not, ◌==◌, nat_lt, cond, Option, None, Some, List, [], ◌∷◌, map, length, get_or, bytes_eq}
+use Rattle.std.proofs.Common.{is_some, arith}
 use Rattle.std.specs.List.{list_all, position}
 use Rattle.std.proofs.lemmas.List.Quantifiers.{position-Some}
 use Rattle.sql_lexer.specs.declared.token.Kind.{Kind}
@@ -23,7 +24,8 @@ each_in p [] i d h l = absurd (omega arith)
 each_in p (x ∷ xs) zero d h l = and_left (p x) (list_all p xs) h
 each_in p (x ∷ xs) (suc i) d h l = each_in p xs i d (and_right (p x) (list_all p xs) h) (omega arith)
 
-bare_at : (p : Mark → Bool) → list_all p bare_marks ≡ true → p m.OtherWord ≡ true → (w : List ℕ) (o : Option ℕ) → position (λ text. bytes_eq text w) (map text_of bare_marks) ≡ o → p (bare_mark_at o) ≡ true
+bare_at : (p : Mark → Bool) → list_all p bare_marks ≡ true → p m.OtherWord ≡ true → (w : List ℕ) (o : Option ℕ) → position (λ text. bytes_eq text w) (map text_of bare_marks)
+    ≡ o → p (bare_mark_at o) ≡ true
 bare_at p h k w None e = k
 bare_at p h k w (Some i) e = let q = position-Some (λ text. bytes_eq text w) (map text_of bare_marks) i [] e in each_in p bare_marks i m.Nothing h q.0
 

@@ -22,7 +22,8 @@ pub heads-first : (f : Token → Bool) (ts : List Token) (x : Token) → Some x 
 heads-first f [] x h = absurd cc
 heads-first f (y ∷ ys) x h = ap f (let e : y ≡ x = cc in e)
 
-pub one-first : {V : Type 0} (f : Token → Bool) (v : Token → V) (ts : List Token) (x : Token) → Some x ≡ slice_get ts 0 → one_p f v ts ≡ choose (f x) (got (v x) (tail ts)) (fault unexpected ts)
+pub one-first : {V : Type 0} (f : Token → Bool) (v : Token → V) (ts : List Token) (x : Token) → Some x ≡ slice_get ts 0 → one_p f v ts
+    ≡ choose (f x) (got (v x) (tail ts)) (fault unexpected ts)
 one-first f v [] x h = absurd cc
 one-first f v (y ∷ ys) x h = let e : y ≡ x = cc in ap (λ z. choose (f z) (got (v z) ys) (fault unexpected (y ∷ ys))) e
 
@@ -40,11 +41,13 @@ other_number n c h = grind (arith, nat_tests)
 pub next_marked : (ts : List Token) (x : Token) (n c : ℕ) (wanted : Mark) → Some x ≡ slice_get ts 0 → n ≡ class x → c ≡ number_of wanted → (n == c) ≡ heads (is_mark wanted) ts
 next_marked ts x n c wanted h e w = rw (e, w) (sym (heads-first (is_mark wanted) ts x h))
 
-pub expected : (ts us : List Token) (x : Token) (n c : ℕ) (wanted : Mark) → Some x ≡ slice_get ts 0 → n ≡ class x → c ≡ number_of wanted → n ≡ c → us ≡ tail ts → one_p (is_mark wanted) span_of ts ≡ got x.span us
+pub expected : (ts us : List Token) (x : Token) (n c : ℕ) (wanted : Mark) → Some x ≡ slice_get ts 0 → n ≡ class x → c ≡ number_of wanted → n ≡ c → us ≡ tail ts
+    → one_p (is_mark wanted) span_of ts ≡ got x.span us
 expected ts us x n c wanted h e w q u = one-first (is_mark wanted) span_of ts x h
     ∙ ap (λ b. choose b (got x.span (tail ts)) (fault unexpected ts)) (same_number (class x) (number_of wanted) (sym e ∙ q ∙ w)) ∙ ap (λ l. got x.span l) (sym u)
 
-pub unexpected_mark : (ts : List Token) (x : Token) (n c : ℕ) (wanted : Mark) → Some x ≡ slice_get ts 0 → n ≡ class x → c ≡ number_of wanted → (n ≡ c → ⊥) → one_p (is_mark wanted) span_of ts ≡ fault unexpected ts
+pub unexpected_mark : (ts : List Token) (x : Token) (n c : ℕ) (wanted : Mark) → Some x ≡ slice_get ts 0 → n ≡ class x → c ≡ number_of wanted → (n ≡ c → ⊥)
+    → one_p (is_mark wanted) span_of ts ≡ fault unexpected ts
 unexpected_mark ts x n c wanted h e w q = one-first (is_mark wanted) span_of ts x h
     ∙ ap (λ b. choose b (got x.span (tail ts)) (fault unexpected ts)) (other_number (class x) (number_of wanted) (λ s. q (e ∙ s ∙ sym w)))
 
@@ -93,7 +96,8 @@ abbrev pub small_at : Option ℕ → Span → List Token → Answer Token (ℕ �
 small_at None s ts = fault unexpected ts
 small_at (Some n) s ts = got (n, s) (tail ts)
 
-numbered_at : (b : Bool) (v : ℕ) (s : Span) (ts : List Token) (o : Option ℕ) → b ≡ is_some o → IfSome o (λ n. v ≡ n) → choose b (got (v, s) (tail ts)) (fault unexpected ts) ≡ small_at o s ts
+numbered_at : (b : Bool) (v : ℕ) (s : Span) (ts : List Token) (o : Option ℕ) → b ≡ is_some o → IfSome o (λ n. v ≡ n) → choose b (got (v, s) (tail ts)) (fault unexpected ts)
+    ≡ small_at o s ts
 numbered_at b v s ts None h i = ap (λ t. choose t (got (v, s) (tail ts)) (fault unexpected ts)) h
 numbered_at b v s ts (Some n) h i = ap (λ t. choose t (got (v, s) (tail ts)) (fault unexpected ts)) h ∙ ap (λ t. got (t, s) (tail ts)) i
 

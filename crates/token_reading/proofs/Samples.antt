@@ -1,5 +1,6 @@
 -- Each class is below the count, and a token has it.
-use Rattle.std.proofs.Common.{◌≡◌, refl, sym, subst, ℕ, zero, suc, ◌-◌, ◌^◌, ◌<◌, Bool, true, ◌&&◌, ◌==◌, nat_lt, cond, codes, List, [], ◌∷◌, map, length, get_or, slice_get, Some, ◌⊎◌, inl, inr, arith}
+use Rattle.std.proofs.Common.{◌≡◌, refl, sym, subst, ℕ, zero, suc, ◌-◌, ◌^◌, ◌<◌, Bool, true, ◌&&◌, ◌==◌, nat_lt, cond, codes, List, [], ◌∷◌, map, length, get_or, slice_get}
+use Rattle.std.proofs.Common.{Some, ◌⊎◌, inl, inr, arith}
 use Rattle.std.proofs.lemmas.Bool.{cases_order}
 use Rattle.std.proofs.lemmas.Bool.Decides.{nat_tests}
 use Rattle.sql_lexer.specs.declared.token.Kind.{Kind}

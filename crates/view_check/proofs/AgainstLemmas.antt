@@ -1,5 +1,6 @@
 -- Properties against the first ones of their names.
-use Rattle.std.proofs.Common.{◌≡◌, ◌+◌, ◌<◌, ◌++◌, arith, ℕ, Bool, true, false, not, ◌&&◌, ◌||◌, cond, List, [], ◌∷◌, append_assoc, drop, get_or, length, map, refl, ap, sym, ◌∙◌, Option, Some, None, nat_eq, slice_get, bytes_eq, Bor}
+use Rattle.std.proofs.Common.{◌≡◌, ◌+◌, ◌<◌, ◌++◌, arith, ℕ, Bool, true, false, not, ◌&&◌, ◌||◌, cond, List, [], ◌∷◌, append_assoc, drop, get_or, length, map, refl, ap, sym, ◌∙◌}
+use Rattle.std.proofs.Common.{Option, Some, None, nat_eq, slice_get, bytes_eq, Bor}
 use Rattle.std.specs.List.{find, flat_map, list_any}
 use Rattle.std.specs.Cmp.Lexicographic.{bytes_decides}
 use Rattle.std.proofs.lemmas.List.{drop_more, append-nil}
@@ -33,7 +34,8 @@ clash_when by (Some first) p = refl
 
 pub one_against : (by : Part) (firsts : List Exposed) (found : Option Fault) (p : Exposed) →
     first_of found (when (is_bad by (first_named firsts p.name) p.column p.class) (code_of by) p.span) ≡ first_of found (against by firsts (p ∷ []))
-one_against by firsts found p = ap (first_of found) (sym (clash_when by (first_named firsts p.name) p) ∙ sym (append-nil (clash (code_of by) (λ q. q.span) (agree by) (first_named firsts p.name) p)))
+one_against by firsts found p = ap (first_of found) (sym (clash_when by (first_named firsts p.name) p)
+    ∙ sym (append-nil (clash (code_of by) (λ q. q.span) (agree by) (first_named firsts p.name) p)))
 
 -- ---- loops
 
@@ -46,7 +48,8 @@ lists_step by firsts f found xs i x within is =
     ∙ first_of_append found (against by firsts (f x)) (against by firsts (flat_map f (drop (i + 1) xs)))
 
 pub listed_step : (by : Part) (firsts : List Exposed) (t : Table) (found : Option Fault) (xs : List PropertyDef) (i : ℕ) (x : PropertyDef) → i < length xs → x ≡ get_or xs i x →
-    first_of found (against by firsts (flat_map (exposed_by t) (drop i xs))) ≡ first_of (first_of found (against by firsts (exposed_by t x))) (against by firsts (flat_map (exposed_by t) (drop (i + 1) xs)))
+    first_of found (against by firsts (flat_map (exposed_by t) (drop i xs))) ≡ first_of (first_of found (against by firsts (exposed_by t x)))
+    (against by firsts (flat_map (exposed_by t) (drop (i + 1) xs)))
 listed_step by firsts t found xs i x within is = lists_step by firsts (exposed_by t) found xs i x within is
 
 pub labels_step : (by : Part) (firsts : List Exposed) (t : Table) (found : Option Fault) (xs : List LabelDef) (i : ℕ) (x : LabelDef) → i < length xs → x ≡ get_or xs i x →
@@ -54,13 +57,15 @@ pub labels_step : (by : Part) (firsts : List Exposed) (t : Table) (found : Optio
     first_of (first_of found (against by firsts (exposed_in t x.span x.properties))) (against by firsts (flat_map (λ l. exposed_in t l.span l.properties) (drop (i + 1) xs)))
 labels_step by firsts t found xs i x within is = lists_step by firsts (λ l. exposed_in t l.span l.properties) found xs i x within is
 
-pub elements_step : (by : Part) (firsts : List Exposed) (tables : List Table) (found : Option Fault) (xs : List (Bor ElementDef)) (i : ℕ) (x : Bor ElementDef) → i < length xs → x ≡ get_or xs i x →
+pub elements_step : (by : Part) (firsts : List Exposed) (tables : List Table) (found : Option Fault) (xs : List (Bor ElementDef)) (i : ℕ) (x : Bor ElementDef) → i < length xs
+    → x ≡ get_or xs i x →
     first_of found (against by firsts (flat_map (properties_in tables) (map (λ e. e.now) (drop i xs)))) ≡
     first_of (first_of found (against by firsts (properties_in tables x.now))) (against by firsts (flat_map (properties_in tables) (map (λ e. e.now) (drop (i + 1) xs))))
 elements_step by firsts tables found xs i x within is =
     ap (λ l. first_of found (against by firsts (flat_map (properties_in tables) (map (λ e. e.now) l)))) (drop_more xs i x within)
     ∙ ap (λ (y : Bor ElementDef). first_of found (against by firsts (properties_in tables y.now ++ flat_map (properties_in tables) (map (λ e. e.now) (drop (i + 1) xs))))) (sym is)
-    ∙ ap (first_of found) (flat_map-append (λ p. clash (code_of by) (λ q. q.span) (agree by) (first_named firsts p.name) p) (properties_in tables x.now) (flat_map (properties_in tables) (map (λ e. e.now) (drop (i + 1) xs))))
+    ∙ ap (first_of found) (flat_map-append (λ p. clash (code_of by) (λ q. q.span) (agree by) (first_named firsts p.name) p) (properties_in tables x.now)
+    (flat_map (properties_in tables) (map (λ e. e.now) (drop (i + 1) xs))))
     ∙ first_of_append found (against by firsts (properties_in tables x.now)) (against by firsts (flat_map (properties_in tables) (map (λ e. e.now) (drop (i + 1) xs))))
 
 pub bad_step : (by : Part) (firsts : List Exposed) (t : Table) (done : List (List ℕ)) (xs : List Column) (i : ℕ) (x : Column) → i < length xs → x ≡ get_or xs i x →
@@ -73,7 +78,8 @@ bad_step by firsts t done xs i x within is =
     ∙ sym (append_assoc done (cond (is_bad by (first_named firsts x.name) i (class_at t i)) (x.name ∷ []) []) (bad_from by firsts t (i + 1) (drop (i + 1) xs)))
 
 pub outside_step : (names : List Named) (xs : List (Bor (List ℕ))) (i : ℕ) (x : Bor (List ℕ)) → i < length xs → x ≡ get_or xs i x →
-    list_any (λ n. not (is_among n names)) (map (λ n. n.now) (drop i xs)) ≡ (not (is_among x.now names) || list_any (λ n. not (is_among n names)) (map (λ n. n.now) (drop (i + 1) xs)))
+    list_any (λ n. not (is_among n names)) (map (λ n. n.now) (drop i xs))
+    ≡ (not (is_among x.now names) || list_any (λ n. not (is_among n names)) (map (λ n. n.now) (drop (i + 1) xs)))
 outside_step names xs i x within is =
     ap (λ l. list_any (λ n. not (is_among n names)) (map (λ (n : Bor (List ℕ)). n.now) l)) (drop_more xs i x within)
     ∙ ap (λ (y : Bor (List ℕ)). not (is_among y.now names) || list_any (λ n. not (is_among n names)) (map (λ n. n.now) (drop (i + 1) xs))) (sym is)
@@ -102,17 +108,20 @@ block_from : (by : Part) (firsts : List Exposed) (t : Table) (names : List Named
     first_of found (against by firsts (exposed_but t names span k cs)) ≡
     first_of found (when (list_any (λ n. not (is_among n names)) (bad_from by firsts t k cs)) (code_of by) span)
 block_from by firsts t names span found k [] = refl
-block_from by firsts t names span found k (c ∷ cs) = go (λ f. block_from by firsts t names span f (1 + k) cs) (is_among c.name names) refl (is_bad by (first_named firsts c.name) k (class_at t k)) refl
+block_from by firsts t names span found k (c ∷ cs) = go (λ f. block_from by firsts t names span f (1 + k) cs) (is_among c.name names) refl
+    (is_bad by (first_named firsts c.name) k (class_at t k)) refl
   where
     once : (f : Fault) (b : Bool) → f ≡ record { code = code_of by; span = span } → first_of (earlier found f) (when b (code_of by) span) ≡ earlier found f
     once f true is = ap (λ g. earlier (earlier found f) g) (sym is) ∙ again found f
     once f false is = refl
 
-    go : ((f : Option Fault) → first_of f (against by firsts (exposed_but t names span (1 + k) cs)) ≡ first_of f (when (list_any (λ n. not (is_among n names)) (bad_from by firsts t (1 + k) cs)) (code_of by) span)) →
+    go : ((f : Option Fault) → first_of f (against by firsts (exposed_but t names span (1 + k) cs))
+        ≡ first_of f (when (list_any (λ n. not (is_among n names)) (bad_from by firsts t (1 + k) cs)) (code_of by) span)) →
         (m : Bool) → is_among c.name names ≡ m → (b : Bool) → is_bad by (first_named firsts c.name) k (class_at t k) ≡ b →
         first_of found (against by firsts (cond m [] (property_at t c.name span k ∷ []) ++ exposed_but t names span (1 + k) cs)) ≡
         first_of found (when (list_any (λ n. not (is_among n names)) (cond b (c.name ∷ []) [] ++ bad_from by firsts t (1 + k) cs)) (code_of by) span)
-    go later true m true b = later found ∙ ap (λ w. first_of found (when (not w || list_any (λ n. not (is_among n names)) (bad_from by firsts t (1 + k) cs)) (code_of by) span)) (sym m)
+    go later true m true b = later found ∙ ap (λ w. first_of found (when (not w || list_any (λ n. not (is_among n names)) (bad_from by firsts t (1 + k) cs)) (code_of by) span))
+        (sym m)
     go later true m false b = later found
     go later false m true b =
         ap (λ l. first_of found (l ++ against by firsts (exposed_but t names span (1 + k) cs)))
@@ -126,7 +135,8 @@ block_from by firsts t names span found k (c ∷ cs) = go (λ f. block_from by f
         ∙ later found
 
 pub block_against : (by : Part) (firsts : List Exposed) (t : Table) (names : List Named) (span : Span) (found : Option Fault) →
-    first_of found (when (list_any (λ n. not (is_among n names)) (bad_names by firsts t)) (code_of by) span) ≡ first_of found (against by firsts (exposed_but t names span 0 t.columns))
+    first_of found (when (list_any (λ n. not (is_among n names)) (bad_names by firsts t)) (code_of by) span)
+    ≡ first_of found (against by firsts (exposed_but t names span 0 t.columns))
 block_against by firsts t names span found = sym (block_from by firsts t names span found 0 t.columns)
 
 -- ---- the whole list
@@ -168,7 +178,8 @@ behind by firsts before (x ∷ xs) is = ap2 (head (first_named before x.name) re
         let at : first_named firsts x.name ≡ Some f = is x.name ∙ first_append before (x ∷ xs) x.name ∙ ap (λ o. or_first o (first_named (x ∷ xs) x.name)) e in
         ap (λ o. clash (code_of by) (λ p. p.span) (agree by) o x) (e ∙ sym at)
     head None e =
-        let at : first_named firsts x.name ≡ Some x = is x.name ∙ first_append before (x ∷ xs) x.name ∙ ap (λ o. or_first o (first_named (x ∷ xs) x.name)) e ∙ ap (λ b. cond b (Some x) (first_named xs x.name)) (same_bytes x.name) in
+        let at : first_named firsts x.name ≡ Some x = is x.name ∙ first_append before (x ∷ xs) x.name ∙ ap (λ o. or_first o (first_named (x ∷ xs) x.name)) e
+        ∙ ap (λ b. cond b (Some x) (first_named xs x.name)) (same_bytes x.name) in
         ap (λ o. clash (code_of by) (λ p. p.span) (agree by) o x) e ∙ sym itself ∙ ap (λ o. clash (code_of by) (λ p. p.span) (agree by) o x) (sym at)
 
 -- against the first ones of their names stand those that stand against earlier ones

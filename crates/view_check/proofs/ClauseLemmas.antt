@@ -1,5 +1,6 @@
 -- Label clauses and the names of their properties.
-use Rattle.std.proofs.Common.{◌≡◌, ◌+◌, ◌<◌, ◌++◌, arith, nat_eq, ℕ, suc, Bool, true, false, not, ◌&&◌, ◌||◌, cond, List, [], ◌∷◌, append_assoc, drop, get_or, length, map, refl, ap, sym, ◌∙◌, Option, Some, None, option_map, is_some, slice_get, bytes_eq, Bor}
+use Rattle.std.proofs.Common.{◌≡◌, ◌+◌, ◌<◌, ◌++◌, arith, nat_eq, ℕ, suc, Bool, true, false, not, ◌&&◌, ◌||◌, cond, List, [], ◌∷◌, append_assoc, drop, get_or, length, map, refl}
+use Rattle.std.proofs.Common.{ap, sym, ◌∙◌, Option, Some, None, option_map, is_some, slice_get, bytes_eq, Bor}
 use Rattle.std.specs.List.{find, flat_map, list_any, list_all}
 use Rattle.std.specs.Cmp.Lexicographic.{bytes_decides}
 use Rattle.std.proofs.lemmas.List.{drop_more, append-nil}
@@ -21,7 +22,8 @@ use Rattle.view_check.specs.declared.exposed.Exposed.{Exposed}
 use Rattle.view_check.specs.declared.exposed.Shown.{Shown}
 use Rattle.view_check.specs.declared.clauses.Clause.{Clause}
 use Rattle.view_check.specs.declared.clauses.Source.{Source}
-use Rattle.view_check.specs.GraphRules.{has_column, exposed_by, exposed_but, property_at, is_sound_label, table_place, shown, shown_of, shown_under, shown_in, shown_from, label_properties_differ}
+use Rattle.view_check.specs.GraphRules.{has_column, exposed_by, exposed_but, property_at, is_sound_label, table_place, shown, shown_of, shown_under, shown_in, shown_from}
+use Rattle.view_check.specs.GraphRules.{label_properties_differ}
 use Rattle.view_check.specs.Clauses.{columns_but, names_in, shown_by}
 use Rattle.view_check.proofs.KnownLemmas.{any_place, entry_first}
 
@@ -140,10 +142,12 @@ all_shown_step tables done xs i x within is =
     ∙ ap (λ n. done ++ (shown_in tables i x.now ++ shown_from tables n (map (λ (e : Bor ElementDef). e.now) (drop (i + 1) xs)))) (omega arith)
     ∙ sym (append_assoc done (shown_in tables i x.now) (shown_from tables (i + 1) (map (λ e. e.now) (drop (i + 1) xs))))
 
-pub shown_known : (tables : List Table) (n : ℕ) (e : ElementDef) (t : Table) → slice_get tables (table_place tables e.table.name) ≡ Some t → shown_of t n e e.labels ≡ shown_in tables n e
+pub shown_known : (tables : List Table) (n : ℕ) (e : ElementDef) (t : Table) → slice_get tables (table_place tables e.table.name) ≡ Some t → shown_of t n e e.labels
+    ≡ shown_in tables n e
 shown_known tables n e t h = ap (λ o. shown_under o n e) (sym h ∙ entry_first e.table.name tables)
 
-pub shown_unknown : (tables : List Table) (n : ℕ) (e : ElementDef) (done : List Shown) → slice_get tables (table_place tables e.table.name) ≡ None → done ≡ done ++ shown_in tables n e
+pub shown_unknown : (tables : List Table) (n : ℕ) (e : ElementDef) (done : List Shown) → slice_get tables (table_place tables e.table.name) ≡ None → done
+    ≡ done ++ shown_in tables n e
 shown_unknown tables n e done h = sym (append-nil done) ∙ ap (λ o. done ++ shown_under o n e) (sym h ∙ entry_first e.table.name tables)
 
 -- ---- clauses clash where what they show does
@@ -171,8 +175,10 @@ behind_map f code span same agree done (x ∷ xs) =
     (behind_map f code span same agree (done ++ x ∷ []) xs ∙ ap (λ l. clashing_behind code span same agree l (map f xs)) (map_append f done (x ∷ [])))
 
 pub clauses_clash : (tables : List Table) (clauses : List Clause) (shown : List Shown) (found : Option Fault) → map (shown_by tables) clauses ≡ shown →
-    first_of found (clashing codes_of.LabelPropertiesDiffer (λ c. c.span) (λ c d. bytes_eq c.label.now d.label.now) (λ c d. nat_eq c.element d.element || same_texts (names_in tables c.source) (names_in tables d.source)) clauses) ≡
+    first_of found (clashing codes_of.LabelPropertiesDiffer (λ c. c.span) (λ c d. bytes_eq c.label.now d.label.now)
+    (λ c d. nat_eq c.element d.element || same_texts (names_in tables c.source) (names_in tables d.source)) clauses) ≡
     first_of found (label_properties_differ shown)
 clauses_clash tables clauses shown found is =
-    ap (first_of found) (behind_map (shown_by tables) codes_of.LabelPropertiesDiffer (λ l. l.span) (λ l m. bytes_eq l.label m.label) (λ l m. nat_eq l.element m.element || same_texts l.names m.names) [] clauses
+    ap (first_of found) (behind_map (shown_by tables) codes_of.LabelPropertiesDiffer (λ l. l.span) (λ l m. bytes_eq l.label m.label)
+    (λ l m. nat_eq l.element m.element || same_texts l.names m.names) [] clauses
     ∙ ap (λ l. label_properties_differ l) is)

@@ -1,5 +1,6 @@
 -- What holds of each span of a schema's tree holds of the span of each fault.
-use Rattle.std.proofs.Common.{◌≡◌, ℕ, zero, suc, ◌+◌, Bool, true, false, not, ◌&&◌, ◌||◌, cond, List, [], ◌∷◌, ◌++◌, map, refl, Option, None, Some, is_some, unwrap_or, slice_get, bytes_eq, nat_eq}
+use Rattle.std.proofs.Common.{◌≡◌, ℕ, zero, suc, ◌+◌, Bool, true, false, not, ◌&&◌, ◌||◌, cond, List, [], ◌∷◌, ◌++◌, map, refl, Option, None, Some, is_some, unwrap_or, slice_get}
+use Rattle.std.proofs.Common.{bytes_eq, nat_eq}
 use Rattle.std.specs.List.{flat_map, find, AllByRecursion}
 use Rattle.pgq_base.specs.declared.refusal.Span.{Span}
 use Rattle.pgq_base.specs.declared.code.Code.{Code}
@@ -27,17 +28,26 @@ use Rattle.graph_ast.specs.declared.catalog.Table.{Table}
 use Rattle.graph_ast.specs.declared.catalog.Column.{Column}
 use Rattle.graph_ast.specs.declared.catalog.Reference.{Reference}
 use Rattle.graph_ast.specs.Schemas.{tables_among, graphs_among, rules_of, elements}
-use Rattle.graph_ast.specs.Spans.{NamesHave, GivenNameHas, KindHas, RuleHas, ColumnHas, TableHas, KeyHas, PropertyHas, PropertiesHave, LabelHas, ElementHas, EndHas, EdgeHas, GraphHas, StatementHas, EachSpanHas}
+use Rattle.graph_ast.specs.Spans.{NamesHave, GivenNameHas, KindHas, RuleHas, ColumnHas, TableHas, KeyHas, PropertyHas, PropertiesHave, LabelHas, ElementHas, EndHas, EdgeHas}
+use Rattle.graph_ast.specs.Spans.{GraphHas, StatementHas, EachSpanHas}
 use Rattle.first_faults.specs.declared.faults.Fault.{Fault}
 use Rattle.first_faults.specs.Faults.{when, is_before, earlier, first_of, clash, clashing_behind}
 use Rattle.first_faults.specs.Names.{is_among, repeated_behind}
 use Rattle.view_check.specs.declared.exposed.Exposed.{Exposed}
 use Rattle.view_check.specs.declared.exposed.Shown.{Shown}
 use Rattle.view_check.specs.TableRules as tables
-use Rattle.view_check.specs.TableRules.{table_faults, faults_of_table, faults_of_rule, second_primary_behind, second_primary_keys, is_primary, in_text_order, duplicates_in_lists, unknown_columns, unknown_in_lists, faults_of_reference, reference_faults, shape_fails, target_not_unique, unsupported_type, unsupported_constraint, duplicate_columns, table_named, targets_of}
+use Rattle.view_check.specs.TableRules.{table_faults, faults_of_table, faults_of_rule, second_primary_behind, second_primary_keys, is_primary, in_text_order, duplicates_in_lists}
+use Rattle.view_check.specs.TableRules.{unknown_columns, unknown_in_lists, faults_of_reference, reference_faults, shape_fails, target_not_unique, unsupported_type}
+use Rattle.view_check.specs.TableRules.{unsupported_constraint, duplicate_columns, table_named, targets_of}
 use Rattle.view_check.specs.Catalogs.{tables_of}
 use Rattle.view_check.specs.GraphRules as graphs
-use Rattle.view_check.specs.GraphRules.{graph_faults, faults_of_graph, faults_of_edge, faults_of_end, faults_of_element, faults_in_table, duplicates_in_key, duplicates_in_properties, duplicates_in_label, duplicates_in_end, unknown_column, unknown_in_key, unknown_in_properties, unknown_in_label, key_not_unique, faults_of_key, duplicate_labels, element_name, label_name, property_name, named_table, key_places, property_at, exposed_by, exposed_but, exposed_in, properties_of, properties_under, properties_in, property_columns_differ, property_classes_differ, is_sound_label, is_sound, shown, shown_of, shown_under, shown_in, shown_from, label_properties_differ, vertex_named, unknown_vertex, faults_of_short, faults_of_full, reference_mismatch, references_to, faults_at_vertex, faults_with_table, faults_with_vertex, faults_with_own, end_vertex, own_columns, duplicate_elements, duplicate_graphs, has_column, column_place}
+use Rattle.view_check.specs.GraphRules.{graph_faults, faults_of_graph, faults_of_edge, faults_of_end, faults_of_element, faults_in_table, duplicates_in_key}
+use Rattle.view_check.specs.GraphRules.{duplicates_in_properties, duplicates_in_label, duplicates_in_end, unknown_column, unknown_in_key, unknown_in_properties, unknown_in_label}
+use Rattle.view_check.specs.GraphRules.{key_not_unique, faults_of_key, duplicate_labels, element_name, label_name, property_name, named_table, key_places, property_at}
+use Rattle.view_check.specs.GraphRules.{exposed_by, exposed_but, exposed_in, properties_of, properties_under, properties_in, property_columns_differ, property_classes_differ}
+use Rattle.view_check.specs.GraphRules.{is_sound_label, is_sound, shown, shown_of, shown_under, shown_in, shown_from, label_properties_differ, vertex_named, unknown_vertex}
+use Rattle.view_check.specs.GraphRules.{faults_of_short, faults_of_full, reference_mismatch, references_to, faults_at_vertex, faults_with_table, faults_with_vertex}
+use Rattle.view_check.specs.GraphRules.{faults_with_own, end_vertex, own_columns, duplicate_elements, duplicate_graphs, has_column, column_place}
 use Rattle.view_check.specs.Limits.{at_item, past, long_list, long_rule, long_key, large_table, large_element, large_edge, large_graph, size_faults}
 use Rattle.view_check.specs.Phases.{or_then, first_fault}
 use Rattle.view_check.proofs.ValidTables.{each_in_order}
@@ -52,7 +62,8 @@ module _ (P : Span → Type 0) where
   both Q [] ys h g = g
   both Q (x ∷ xs) ys h g = (h.0, both Q xs ys h.1 g)
 
-  each : {X Y : Type 0} (Q : X → Type 0) (R : Y → Type 0) (f : X → List Y) → ((x : X) → Q x → AllByRecursion R (f x)) → (xs : List X) → AllByRecursion Q xs → AllByRecursion R (flat_map f xs)
+  each : {X Y : Type 0} (Q : X → Type 0) (R : Y → Type 0) (f : X → List Y) → ((x : X) → Q x → AllByRecursion R (f x)) → (xs : List X) → AllByRecursion Q xs
+      → AllByRecursion R (flat_map f xs)
   each Q R f step [] h = tt
   each Q R f step (x ∷ xs) h = both R (f x) (flat_map f xs) (step x h.0) (each Q R f step xs h.1)
 
@@ -70,13 +81,15 @@ module _ (P : Span → Type 0) where
   at_repeated : (c : Code) (before names : List Named) → NamesHave P names → Have (repeated_behind c before names)
   at_repeated c before [] h = tt
   at_repeated c before (n ∷ names) h =
-      pair (when (is_among n.name before) c n.span) (repeated_behind c (before ++ n ∷ []) names) (at_when (is_among n.name before) c n.span h.0) (at_repeated c (before ++ n ∷ []) names h.1)
+      pair (when (is_among n.name before) c n.span) (repeated_behind c (before ++ n ∷ []) names) (at_when (is_among n.name before) c n.span h.0)
+      (at_repeated c (before ++ n ∷ []) names h.1)
 
   at_clash : {X : Type 0} (c : Code) (span : X → Span) (agree : X → X → Bool) (o : Option X) (x : X) → P (span x) → Have (clash c span agree o x)
   at_clash c span agree None x h = tt
   at_clash c span agree (Some first) x h = at_when (not (agree first x)) c (span x) h
 
-  at_clashing : {X : Type 0} (c : Code) (span : X → Span) (same agree : X → X → Bool) (before xs : List X) → AllByRecursion (λ x. P (span x)) xs → Have (clashing_behind c span same agree before xs)
+  at_clashing : {X : Type 0} (c : Code) (span : X → Span) (same agree : X → X → Bool) (before xs : List X) → AllByRecursion (λ x. P (span x)) xs
+      → Have (clashing_behind c span same agree before xs)
   at_clashing c span same agree before [] h = tt
   at_clashing c span same agree before (x ∷ xs) h =
       pair (clash c span agree (find (λ y. same y x) before) x) (clashing_behind c span same agree (before ++ x ∷ []) xs)
@@ -118,7 +131,8 @@ module _ (P : Span → Type 0) where
   graphs_have (statement.Graph g ∷ ss) h = (h.0, graphs_have ss h.1)
 
   rules_have : (t : TableDef) → TableHas P t → AllByRecursion (RuleHas P) (rules_of t)
-  rules_have t h = both (RuleHas P) (flat_map (λ (c : ColumnDef). c.rules) t.columns) t.rules (each (ColumnHas P) (RuleHas P) (λ c. c.rules) (λ c g. g.rules) t.columns h.columns) h.rules
+  rules_have t h = both (RuleHas P) (flat_map (λ (c : ColumnDef). c.rules) t.columns) t.rules
+      (each (ColumnHas P) (RuleHas P) (λ c. c.rules) (λ c g. g.rules) t.columns h.columns) h.rules
 
   at_lists : (k : RuleKind) → KindHas P k → Have (duplicates_in_lists k)
   at_lists (Primary names) h = at_repeated code.DuplicateColumn [] names h
@@ -129,7 +143,8 @@ module _ (P : Span → Type 0) where
   at_lists Check h = tt
 
   at_unknown : (t : TableDef) (names : List Named) → NamesHave P names → Have (unknown_columns t names)
-  at_unknown t names h = each (λ (n : Named). P n.span) (λ f. P f.span) (λ (n : Named). when (not (tables.has_column t n.name)) code.UnknownColumn n.span) (λ n g. at_when (not (tables.has_column t n.name)) code.UnknownColumn n.span g) names h
+  at_unknown t names h = each (λ (n : Named). P n.span) (λ f. P f.span) (λ (n : Named). when (not (tables.has_column t n.name)) code.UnknownColumn n.span)
+      (λ n g. at_when (not (tables.has_column t n.name)) code.UnknownColumn n.span g) names h
 
   at_target : (o : Option TableDef) (listed : List Named) → NamesHave P listed → Have (tables.unknown_in_target o listed)
   at_target None listed h = tt
@@ -138,7 +153,8 @@ module _ (P : Span → Type 0) where
   at_unknown_lists : (ts : List TableDef) (t : TableDef) (k : RuleKind) → KindHas P k → Have (unknown_in_lists ts t k)
   at_unknown_lists ts t (Primary names) h = at_unknown t names h
   at_unknown_lists ts t (Unique names) h = at_unknown t names h
-  at_unknown_lists ts t (Foreign own target listed) h = pair (unknown_columns t own) (tables.unknown_in_target (table_named ts target.name) listed) (at_unknown t own h.0) (at_target (table_named ts target.name) listed h.2)
+  at_unknown_lists ts t (Foreign own target listed) h = pair (unknown_columns t own) (tables.unknown_in_target (table_named ts target.name) listed) (at_unknown t own h.0)
+      (at_target (table_named ts target.name) listed h.2)
   at_unknown_lists ts t NotNull h = tt
   at_unknown_lists ts t Default h = tt
   at_unknown_lists ts t Check h = tt
@@ -154,8 +170,10 @@ module _ (P : Span → Type 0) where
   at_reference : (t : TableDef) (o : Option TableDef) (own : List Named) (target : Named) (listed : List Named) → P target.span → Have (faults_of_reference t o own target listed)
   at_reference t None own target listed h = tt
   at_reference t (Some u) own target listed h =
-      pair (when (shape_fails t u own (targets_of u listed)) code.ReferenceShape target.span) (when (target_not_unique t u own (targets_of u listed)) code.ReferenceNotUnique target.span)
-      (at_when (shape_fails t u own (targets_of u listed)) code.ReferenceShape target.span h) (at_when (target_not_unique t u own (targets_of u listed)) code.ReferenceNotUnique target.span h)
+      pair (when (shape_fails t u own (targets_of u listed)) code.ReferenceShape target.span)
+      (when (target_not_unique t u own (targets_of u listed)) code.ReferenceNotUnique target.span)
+      (at_when (shape_fails t u own (targets_of u listed)) code.ReferenceShape target.span h)
+      (at_when (target_not_unique t u own (targets_of u listed)) code.ReferenceNotUnique target.span h)
 
   at_references : (ts : List TableDef) (t : TableDef) (k : RuleKind) → KindHas P k → Have (reference_faults ts t k)
   at_references ts t (Foreign own target listed) h = at_reference t (table_named ts target.name) own target listed h.1
@@ -188,7 +206,8 @@ module _ (P : Span → Type 0) where
       pair (duplicate_columns t ++ second_primary_keys t ++ flat_map unsupported_type t.columns) (flat_map (faults_of_rule ts t) (rules_of t))
       (pair (duplicate_columns t ++ second_primary_keys t) (flat_map unsupported_type t.columns)
       (pair (duplicate_columns t) (second_primary_keys t)
-      (at_repeated code.DuplicateColumn [] (map (λ (c : ColumnDef). c.name) t.columns) (mapped (ColumnHas P) (λ (n : Named). P n.span) (λ c. c.name) (λ c g. g.name) t.columns h.columns))
+      (at_repeated code.DuplicateColumn [] (map (λ (c : ColumnDef). c.name) t.columns)
+      (mapped (ColumnHas P) (λ (n : Named). P n.span) (λ c. c.name) (λ c g. g.name) t.columns h.columns))
       (at_second false (in_text_order t) (each_in_order (RuleHas P) t (rules_have t h))))
       (each (ColumnHas P) (λ f. P f.span) unsupported_type (λ c g. at_when _ code.UnsupportedType c.written.span g.written) t.columns h.columns))
       (each (RuleHas P) (λ f. P f.span) (faults_of_rule ts t) (at_rule ts t) (rules_of t) (rules_have t h))
@@ -269,7 +288,8 @@ module _ (P : Span → Type 0) where
   columns_have : (t : Table) (names : List Named) (s : Span) (i : ℕ) (cs : List Column) → P s → AllByRecursion Exposes (exposed_but t names s i cs)
   columns_have t names s i [] h = tt
   columns_have t names s i (c ∷ cs) h =
-      both Exposes (cond (is_among c.name names) [] (property_at t c.name s i ∷ [])) (exposed_but t names s (1 + i) cs) (go (is_among c.name names)) (columns_have t names s (1 + i) cs h)
+      both Exposes (cond (is_among c.name names) [] (property_at t c.name s i ∷ [])) (exposed_but t names s (1 + i) cs) (go (is_among c.name names))
+      (columns_have t names s (1 + i) cs h)
     where
       go : (b : Bool) → AllByRecursion Exposes (cond b [] (property_at t c.name s i ∷ []))
       go true = tt
@@ -330,8 +350,10 @@ module _ (P : Span → Type 0) where
   at_known (Some t) e h =
       pair (unknown_in_key t e.key ++ flat_map (unknown_in_label t) e.labels ++ faults_of_key t e) (property_columns_differ (properties_of t e))
       (pair (unknown_in_key t e.key ++ flat_map (unknown_in_label t) e.labels) (faults_of_key t e)
-      (pair (unknown_in_key t e.key) (flat_map (unknown_in_label t) e.labels) (at_key_columns t e.key h.key) (each (LabelHas P) (λ f. P f.span) (unknown_in_label t) (at_label_columns t) e.labels h.labels))
-      (pair (when (graphs.lacks_key t e) code.NoKey (element_name e).span) (key_not_unique t e.key) (at_when (graphs.lacks_key t e) code.NoKey (element_name e).span (name_has e h)) (at_key_kind t e.key h.key)))
+      (pair (unknown_in_key t e.key) (flat_map (unknown_in_label t) e.labels) (at_key_columns t e.key h.key)
+      (each (LabelHas P) (λ f. P f.span) (unknown_in_label t) (at_label_columns t) e.labels h.labels))
+      (pair (when (graphs.lacks_key t e) code.NoKey (element_name e).span) (key_not_unique t e.key)
+      (at_when (graphs.lacks_key t e) code.NoKey (element_name e).span (name_has e h)) (at_key_kind t e.key h.key)))
       (at_clashing code.PropertyColumnsDiffer (λ (p : Exposed). p.span) _ _ [] (properties_of t e) (properties_have t e h))
 
   at_element : (ts : List Table) (e : ElementDef) → ElementHas P e → Have (faults_of_element ts e)
@@ -340,7 +362,8 @@ module _ (P : Span → Type 0) where
       pair (graphs.unknown_table ts e ++ duplicates_in_key e.key ++ flat_map duplicates_in_label e.labels ++ duplicate_labels e) (faults_in_table (named_table ts e.table.name) e)
       (pair (graphs.unknown_table ts e ++ duplicates_in_key e.key ++ flat_map duplicates_in_label e.labels) (duplicate_labels e)
       (pair (graphs.unknown_table ts e ++ duplicates_in_key e.key) (flat_map duplicates_in_label e.labels)
-      (pair (graphs.unknown_table ts e) (duplicates_in_key e.key) (at_when (not (is_some (named_table ts e.table.name))) code.UnknownTable e.table.span h.table) (at_key_list e.key h.key))
+      (pair (graphs.unknown_table ts e) (duplicates_in_key e.key) (at_when (not (is_some (named_table ts e.table.name))) code.UnknownTable e.table.span h.table)
+      (at_key_list e.key h.key))
       (each (LabelHas P) (λ f. P f.span) duplicates_in_label at_label_list e.labels h.labels))
       (at_repeated code.DuplicateLabel [] (map (label_name e) e.labels) (mapped (LabelHas P) (λ (n : Named). P n.span) (label_name e) (λ l g. g.0) e.labels h.labels)))
       (at_known (named_table ts e.table.name) e h)
@@ -375,7 +398,8 @@ module _ (P : Span → Type 0) where
   at_vertex : (ts : List Table) (t : Table) (v : ElementDef) (u : Table) (end : EndDef) → EndHas P end → Have (faults_at_vertex ts t v u end)
   at_vertex ts t v u (Short vertex) h = at_short t u (key_places u v) (references_to t (graphs.table_place ts v.table.name)) vertex h
   at_vertex ts t v u (Full own vertex listed) h =
-      pair (flat_map (unknown_column u) listed) (faults_of_full t u (key_places u v) own vertex listed) (at_columns u listed h.2) (at_full t u (key_places u v) own vertex listed h.1)
+      pair (flat_map (unknown_column u) listed) (faults_of_full t u (key_places u v) own vertex listed) (at_columns u listed h.2)
+      (at_full t u (key_places u v) own vertex listed h.1)
 
   at_vertex_table : (ts : List Table) (t : Table) (v : ElementDef) (o : Option Table) (end : EndDef) → EndHas P end → Have (faults_with_table ts t v o end)
   at_vertex_table ts t v None end h = tt
@@ -395,7 +419,8 @@ module _ (P : Span → Type 0) where
   unfolding faults_of_end
   at_end ts g o end h =
       pair (duplicates_in_end end ++ unknown_vertex g (end_vertex end)) (faults_with_own ts g o end)
-      (pair (duplicates_in_end end) (unknown_vertex g (end_vertex end)) (at_end_lists end h) (at_when (not (is_some (vertex_named g (end_vertex end).name))) code.UnknownVertex (end_vertex end).span (vertex_has end h)))
+      (pair (duplicates_in_end end) (unknown_vertex g (end_vertex end)) (at_end_lists end h) (at_when (not (is_some (vertex_named g (end_vertex end).name))) code.UnknownVertex
+      (end_vertex end).span (vertex_has end h)))
       (at_own ts g o end h)
 
   at_edge : (ts : List Table) (g : GraphDef) (e : EdgeDef) → EdgeHas P e → Have (faults_of_edge ts g e)
@@ -407,7 +432,8 @@ module _ (P : Span → Type 0) where
   -- ---- graphs
 
   elements_have : (g : GraphDef) → GraphHas P g → AllByRecursion (ElementHas P) (elements g)
-  elements_have g h = both (ElementHas P) g.vertices (map (λ (e : EdgeDef). e.element) g.edges) h.vertices (mapped (EdgeHas P) (ElementHas P) (λ e. e.element) (λ e k. k.element) g.edges h.edges)
+  elements_have g h = both (ElementHas P) g.vertices (map (λ (e : EdgeDef). e.element) g.edges) h.vertices
+      (mapped (EdgeHas P) (ElementHas P) (λ e. e.element) (λ e k. k.element) g.edges h.edges)
 
   at_elements_names : (es : List ElementDef) → AllByRecursion (ElementHas P) es → NamesHave P (map element_name es)
   at_elements_names es h = mapped (ElementHas P) (λ (n : Named). P n.span) element_name name_has es h
@@ -416,15 +442,18 @@ module _ (P : Span → Type 0) where
   unfolding faults_of_graph
   at_graph ts g h =
       let all : AllByRecursion (ElementHas P) (elements g) = elements_have g h in
-      pair (duplicate_elements g ++ flat_map (faults_of_element ts) (elements g) ++ flat_map (faults_of_edge ts g) g.edges ++ label_properties_differ (shown_from ts 0 (elements g))) (property_classes_differ (flat_map (properties_in ts) (elements g)))
-      (pair (duplicate_elements g ++ flat_map (faults_of_element ts) (elements g) ++ flat_map (faults_of_edge ts g) g.edges) (label_properties_differ (shown_from ts 0 (elements g)))
+      pair (duplicate_elements g ++ flat_map (faults_of_element ts) (elements g) ++ flat_map (faults_of_edge ts g) g.edges ++ label_properties_differ
+      (shown_from ts 0 (elements g))) (property_classes_differ (flat_map (properties_in ts) (elements g)))
+      (pair (duplicate_elements g ++ flat_map (faults_of_element ts) (elements g) ++ flat_map (faults_of_edge ts g) g.edges)
+      (label_properties_differ (shown_from ts 0 (elements g)))
       (pair (duplicate_elements g ++ flat_map (faults_of_element ts) (elements g)) (flat_map (faults_of_edge ts g) g.edges)
       (pair (duplicate_elements g) (flat_map (faults_of_element ts) (elements g))
       (at_repeated code.DuplicateElement [] (map element_name (elements g)) (at_elements_names (elements g) all))
       (each (ElementHas P) (λ f. P f.span) (faults_of_element ts) (at_element ts) (elements g) all))
       (each (EdgeHas P) (λ f. P f.span) (faults_of_edge ts g) (at_edge ts g) g.edges h.edges))
       (at_clashing code.LabelPropertiesDiffer (λ (l : Shown). l.span) _ _ [] (shown_from ts 0 (elements g)) (all_labels_have ts 0 (elements g) all)))
-      (at_clashing code.PropertyClassesDiffer (λ (p : Exposed). p.span) _ _ [] (flat_map (properties_in ts) (elements g)) (each (ElementHas P) Exposes (properties_in ts) (all_properties_have ts) (elements g) all))
+      (at_clashing code.PropertyClassesDiffer (λ (p : Exposed). p.span) _ _ [] (flat_map (properties_in ts) (elements g))
+      (each (ElementHas P) Exposes (properties_in ts) (all_properties_have ts) (elements g) all))
 
   at_graphs : (ts : List Table) (ss : List Statement) → AllByRecursion (StatementHas P) ss → Have (graph_faults ts ss)
   unfolding graph_faults
@@ -470,7 +499,8 @@ module _ (P : Span → Type 0) where
   at_large_edge : (e : EdgeDef) → EdgeHas P e → Have (large_edge e)
   unfolding large_edge
   at_large_edge e h =
-      pair (long_list (own_columns e.source)) (long_list (own_columns e.destination)) (at_past 8 (own_columns e.source) (own_have e.source h.source)) (at_past 8 (own_columns e.destination) (own_have e.destination h.destination))
+      pair (long_list (own_columns e.source)) (long_list (own_columns e.destination)) (at_past 8 (own_columns e.source) (own_have e.source h.source))
+      (at_past 8 (own_columns e.destination) (own_have e.destination h.destination))
 
   at_large_graph : (g : GraphDef) → GraphHas P g → Have (large_graph g)
   unfolding large_graph

@@ -1,5 +1,6 @@
 -- The first property of each name.
-use Rattle.std.proofs.Common.{◌≡◌, ◌+◌, ◌<◌, ◌≤◌, ◌++◌, arith, ℕ, suc, Bool, true, false, not, ◌&&◌, ◌||◌, cond, List, [], ◌∷◌, drop, get_or, length, map, refl, ap, sym, ◌∙◌, Option, Some, None, IsSome, is_some, unwrap_or, slice_get, bytes_eq, Bor}
+use Rattle.std.proofs.Common.{◌≡◌, ◌+◌, ◌<◌, ◌≤◌, ◌++◌, arith, ℕ, suc, Bool, true, false, not, ◌&&◌, ◌||◌, cond, List, [], ◌∷◌, drop, get_or, length, map, refl, ap, sym, ◌∙◌}
+use Rattle.std.proofs.Common.{Option, Some, None, IsSome, is_some, unwrap_or, slice_get, bytes_eq, Bor}
 use Rattle.std.specs.List.{find, flat_map, list_any, position_or_len}
 use Rattle.std.specs.Cmp.Lexicographic.{bytes_decides, nat_list_eq_equiv}
 use Rattle.std.proofs.lemmas.List.{drop_more, drop_all}
@@ -23,7 +24,8 @@ found_any : (name : List ℕ) (ps : List Exposed) → list_any (λ p. bytes_eq p
 found_any name [] = refl
 found_any name (p ∷ ps) = go (found_any name ps) (bytes_eq p.name name)
   where
-    go : list_any (λ q. bytes_eq q.name name) ps ≡ is_some (first_named ps name) → (b : Bool) → (b || list_any (λ q. bytes_eq q.name name) ps) ≡ is_some (cond b (Some p) (first_named ps name))
+    go : list_any (λ q. bytes_eq q.name name) ps ≡ is_some (first_named ps name) → (b : Bool) → (b || list_any (λ q. bytes_eq q.name name) ps)
+        ≡ is_some (cond b (Some p) (first_named ps name))
     go rest true = refl
     go rest false = rest
 
@@ -52,7 +54,8 @@ pub first_append : (ps qs : List Exposed) (name : List ℕ) → first_named (ps 
 first_append [] qs name = refl
 first_append (p ∷ ps) qs name = go (first_append ps qs name) (bytes_eq p.name name)
   where
-    go : first_named (ps ++ qs) name ≡ or_first (first_named ps name) (first_named qs name) → (b : Bool) → cond b (Some p) (first_named (ps ++ qs) name) ≡ or_first (cond b (Some p) (first_named ps name)) (first_named qs name)
+    go : first_named (ps ++ qs) name ≡ or_first (first_named ps name) (first_named qs name) → (b : Bool) → cond b (Some p) (first_named (ps ++ qs) name)
+        ≡ or_first (cond b (Some p) (first_named ps name)) (first_named qs name)
     go rest true = refl
     go rest false = rest
 
@@ -80,7 +83,8 @@ missing firsts name block h q = go (bytes_eq name q) refl
 -- it comes behind the others
 pub put : (firsts : List Exposed) (name : List ℕ) (item : Exposed) (block : List ℕ → Option Exposed) → item.name ≡ name → block name ≡ Some item → (q : List ℕ) →
     first_named (firsts ++ item ∷ []) q ≡ or_first (first_named firsts q) (cond (bytes_eq name q) (block q) None)
-put firsts name item block named h q = first_append firsts (item ∷ []) q ∙ ap (or_first (first_named firsts q)) (ap (λ n. cond (bytes_eq n q) (Some item) None) named ∙ go (bytes_eq name q) refl)
+put firsts name item block named h q = first_append firsts (item ∷ []) q ∙ ap (or_first (first_named firsts q)) (ap (λ n. cond (bytes_eq n q) (Some item) None) named
+    ∙ go (bytes_eq name q) refl)
   where
     go : (b : Bool) → bytes_eq name q ≡ b → cond b (Some item) None ≡ cond b (block q) None
     go true e = let same : name ≡ q = (bytes_decides name q).0 e in sym h ∙ ap block same
@@ -191,7 +195,8 @@ rest_enough t rest names span firsts covered q = go (is_among q rest) refl (has_
     go false e false f = ap (or_first (first_named firsts q)) (sym (ap (λ w. cond (w && not (is_among q names)) (Some (property_at t q span (column_place t q))) None) f))
 
 -- after ALL COLUMNS but some, all but these are covered
-pub covers : (t : Table) (names : List Named) (span : Span) (firsts all : List Exposed) → ((q : List ℕ) → first_named all q ≡ or_first (first_named firsts q) (all_but t names span q)) → IsCovered t names all
+pub covers : (t : Table) (names : List Named) (span : Span) (firsts all : List Exposed)
+    → ((q : List ℕ) → first_named all q ≡ or_first (first_named firsts q) (all_but t names span q)) → IsCovered t names all
 covers t names span firsts all is q has out =
     ap is_some (is q)
     ∙ ap (λ w. is_some (or_first (first_named firsts q) (cond (w && not (is_among q names)) (Some (property_at t q span (column_place t q))) None))) has

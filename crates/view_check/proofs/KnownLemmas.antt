@@ -1,5 +1,6 @@
 -- Places of names among the names of some items.
-use Rattle.std.proofs.Common.{◌≡◌, ◌+◌, ◌<◌, ◌++◌, arith, append_assoc, drop, get_or, option_to_list, slice_get, ℕ, suc, Bool, true, false, ◌||◌, cond, List, [], ◌∷◌, map, length, refl, ap, sym, ◌∙◌, Option, Some, None, is_some, option_map, unwrap_or, bytes_eq}
+use Rattle.std.proofs.Common.{◌≡◌, ◌+◌, ◌<◌, ◌++◌, arith, append_assoc, drop, get_or, option_to_list, slice_get, ℕ, suc, Bool, true, false, ◌||◌, cond, List, [], ◌∷◌, map}
+use Rattle.std.proofs.Common.{length, refl, ap, sym, ◌∙◌, Option, Some, None, is_some, option_map, unwrap_or, bytes_eq}
 use Rattle.std.specs.List.{list_any, position_or_len, filter_map, flat_map, cons_option}
 use Rattle.std.proofs.lemmas.List.{drop_more}
 use Rattle.std.proofs.lemmas.List.Folds.{find_at}
@@ -98,7 +99,8 @@ all_keys_step done columns own i c within is =
     ∙ sym (append_assoc done (filter_map h c.rules) (filter_map h (flat_map (λ x. x.rules) (drop (i + 1) columns) ++ own)))
 
 -- a list is that of a key exactly where a list of a key is the same
-among_keys : (names : List Named) (rules : List RuleDef) → list_any (λ key. same_names names key) (filter_map (λ r. key_names r.kind) rules) ≡ list_any (λ r. text.is_key_list names r.kind) rules
+among_keys : (names : List Named) (rules : List RuleDef) → list_any (λ key. same_names names key) (filter_map (λ r. key_names r.kind) rules)
+    ≡ list_any (λ r. text.is_key_list names r.kind) rules
 among_keys names [] = refl
 among_keys names (r ∷ rules) = go r.kind (among_keys names rules)
   where

@@ -12,7 +12,8 @@ use Rattle.view_check.specs.Phases.{first_fault}
 use Rattle.view_check.proofs.ValidCatalog.{catalog_valid}
 use Rattle.view_check.proofs.WholeCatalog.{valid_catalog}
 
-pub made_valid : (tree : SchemaTree) (tables : List Table) (graphs : List Graph) → first_fault tree ≡ None → tables ≡ tables_of tree → graphs ≡ map (graph_of tables) (graphs_among tree.statements) → HasShape tree →
+pub made_valid : (tree : SchemaTree) (tables : List Table) (graphs : List Graph) → first_fault tree ≡ None → tables ≡ tables_of tree → graphs
+    ≡ map (graph_of tables) (graphs_among tree.statements) → HasShape tree →
     IsValidCatalog (record { tables = tables; graphs = graphs })
 unfolding catalog_of
 made_valid tree tables graphs none is are shape =

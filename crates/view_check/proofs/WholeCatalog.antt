@@ -1,5 +1,6 @@
 -- A catalog that meets the conditions of Validity is a valid catalog.
-use Rattle.std.proofs.Common.{◌≡◌, ℕ, zero, suc, ◌<◌, ◌≤◌, Bool, true, false, not, ◌&&◌, ◌||◌, List, [], ◌∷◌, ◌++◌, length, map, refl, ap, sym, ◌∙◌, Option, None, Some, slice_get, get_or, bytes_eq, nat_eq, arith, subst, All, inl, inr}
+use Rattle.std.proofs.Common.{◌≡◌, ℕ, zero, suc, ◌<◌, ◌≤◌, Bool, true, false, not, ◌&&◌, ◌||◌, List, [], ◌∷◌, ◌++◌, length, map, refl, ap, sym, ◌∙◌, Option, None, Some}
+use Rattle.std.proofs.Common.{slice_get, get_or, bytes_eq, nat_eq, arith, subst, All, inl, inr}
 use Rattle.std.specs.List.{IsDistinct, flat_map, list_any, list_all, AllByRecursion}
 use Rattle.std.proofs.lemmas.Bool.{eqb-true}
 use Rattle.std.proofs.lemmas.Cmp.{nat_list_eq_equiv}
@@ -22,7 +23,8 @@ use Rattle.graph_ast.specs.Types.{class_of_type}
 use Rattle.graph_ast.specs.Lookups.{table_at, column_at, vertex_element, elements_of, classes_at}
 use Rattle.graph_ast.specs.Catalogs.{AreColumnsOf, IsKeyOf, IsValidReference, IsValidTable, IsValidElement, IsValidEnd, HaveOneClassEach, IsValidGraph, IsValidCatalog}
 use Rattle.view_check.specs.GraphRules.{are_within, same_places, is_not_null, is_firm, class_of, class_at, are_same_class, pairs_differ}
-use Rattle.view_check.proofs.Validity.{ArePlaces, Agree, IsReference, IsTable, is_whole_key, IsElement, IsEnd, IsEdge, class_under, classed, OneClass, HasElements, IsGraph, IsCatalog}
+use Rattle.view_check.proofs.Validity.{ArePlaces, Agree, IsReference, IsTable, is_whole_key, IsElement, IsEnd, IsEdge, class_under, classed, OneClass, HasElements, IsGraph}
+use Rattle.view_check.proofs.Validity.{IsCatalog}
 use Rattle.view_check.proofs.ValidElements.{each_from_all}
 
 -- ---- members
@@ -94,8 +96,11 @@ within_in xs ys h n i =
 distinct : (names : List (List ℕ)) → IsDistinct bytes_eq names → IsWithoutRepeats names
 unfolding IsDistinct
 distinct [] h = tt
-distinct (n ∷ names) h =
-    (λ i. let no : bytes_eq n n ≡ false = each_in (λ m. bytes_eq n m ≡ false) names h.0 n i in let never : true ≡ false = sym (nat_list_eq_equiv.refl n) ∙ no in cc, distinct names h.1)
+distinct (n ∷ names) h = (
+  λ i. let no : bytes_eq n n ≡ false = each_in (λ m. bytes_eq n m ≡ false) names h.0 n i in let never : true ≡ false = sym (nat_list_eq_equiv.refl n) ∙ no in
+      cc,
+  distinct names h.1,
+)
 
 -- ---- tables and columns
 
@@ -152,12 +157,14 @@ classes_same t u (p ∷ ps) [] long h a b = absurd (zero_not_suc (length ps) lon
 classes_same t u (p ∷ ps) (q ∷ qs) long h a b =
     let shorter : length ps ≡ length qs = omega (arith, long) in
     let first : class_of_type (column_at t p).kind ≡ class_of_type (column_at u q).kind =
-    one_pair _ _ (class_at t p) (class_at u q) (class_there t p a.0) (class_there u q b.0) (left_false (not (are_same_class (class_at t p) (class_at u q))) (pairs_differ t u ps qs) h) in
+    one_pair _ _ (class_at t p) (class_at u q) (class_there t p a.0) (class_there u q b.0)
+    (left_false (not (are_same_class (class_at t p) (class_at u q))) (pairs_differ t u ps qs) h) in
     ap (λ c. c ∷ classes_at t ps) first
     ∙ ap (λ l. class_of_type (column_at u q).kind ∷ l)
     (classes_same t u ps qs shorter (right_false (not (are_same_class (class_at t p) (class_at u q))) (pairs_differ t u ps qs) h) a.1 b.1)
 
-agreeing : (t u : Table) (own targets : List ℕ) → Agree t u own targets → ArePlaces (length t.columns) own → ArePlaces (length u.columns) targets → classes_at t own ≡ classes_at u targets
+agreeing : (t u : Table) (own targets : List ℕ) → Agree t u own targets → ArePlaces (length t.columns) own → ArePlaces (length u.columns) targets → classes_at t own
+    ≡ classes_at u targets
 agreeing t u own targets h a b =
     classes_same t u own targets h.long h.classes (each_from_all (λ p. p < length t.columns) own a.within) (each_from_all (λ q. q < length u.columns) targets b.within)
 
@@ -216,11 +223,13 @@ valid_element c e h =
 
 -- ---- edges
 
-valid_end : (c : Catalog) (g : Graph) (e : Element) (own : IsElement c.tables e) (end : End) → All (IsElement c.tables) (elements_of g) → IsEnd c.tables g.vertices own.table end → IsValidEnd c g e end
+valid_end : (c : Catalog) (g : Graph) (e : Element) (own : IsElement c.tables e) (end : End) → All (IsElement c.tables) (elements_of g)
+    → IsEnd c.tables g.vertices own.table end → IsValidEnd c g e end
 valid_end c g e own end all h =
     let same : own.table ≡ table_at c e.table = sym (table_is c e.table own.table own.found) in
     let vertex : h.vertex ≡ vertex_element g end.vertex = sym (get_or_from_slice_get g.vertices end.vertex h.vertex _ h.found) in
-    let element : IsElement c.tables h.vertex = all_in (IsElement c.tables) (elements_of g) all h.vertex (in_front g.vertices (map (λ (x : EdgeElement). x.element) g.edges) h.vertex (get_in g.vertices end.vertex h.vertex h.found)) in
+    let element : IsElement c.tables h.vertex = all_in (IsElement c.tables) (elements_of g) all h.vertex
+    (in_front g.vertices (map (λ (x : EdgeElement). x.element) g.edges) h.vertex (get_in g.vertices end.vertex h.vertex h.found)) in
     let there : h.table ≡ table_at c h.vertex.table = sym (table_is c h.vertex.table h.table h.its) in
     let tables : element.table ≡ h.table = table_once c.tables h.vertex.table element.table h.table element.found h.its in
     let agree : classes_at own.table end.columns ≡ classes_at h.table h.vertex.key =

@@ -5,7 +5,8 @@ use Rattle.condition_nodes.proofs.FirstLiterals.{chosen, valued, plain_first}
 use Rattle.condition_nodes.proofs.literals.numeral.Goals as goal
 
 pub returns-in_default-plain_value : goal.returns-in_default-plain_value
-returns-in_default-plain_value g c = plain_first c.args.tokens.now c.in-Some.token.now c.in-Some.ensures ∙ ap (λ o. chosen (valued) o c.in-Some.token.now.span c.args.tokens.now) (sym c.in_default-plain_value.ensures)
+returns-in_default-plain_value g c = plain_first c.args.tokens.now c.in-Some.token.now c.in-Some.ensures
+    ∙ ap (λ o. chosen (valued) o c.in-Some.token.now.span c.args.tokens.now) (sym c.in_default-plain_value.ensures)
 
 pub returns : goal.returns
 returns g c = plain_first c.args.tokens.now c.in-Some.token.now c.in-Some.ensures

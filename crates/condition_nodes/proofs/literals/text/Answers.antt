@@ -5,7 +5,8 @@ use Rattle.condition_nodes.proofs.FirstLiterals.{chosen, texted, text_first}
 use Rattle.condition_nodes.proofs.literals.text.Goals as goal
 
 pub returns-in_default-literal_text : goal.returns-in_default-literal_text
-returns-in_default-literal_text g c = text_first c.args.tokens.now c.in-Some.token.now c.in-Some.ensures ∙ ap (λ o. chosen (texted) o c.in-Some.token.now.span c.args.tokens.now) (sym c.in_default-literal_text.ensures)
+returns-in_default-literal_text g c = text_first c.args.tokens.now c.in-Some.token.now c.in-Some.ensures
+    ∙ ap (λ o. chosen (texted) o c.in-Some.token.now.span c.args.tokens.now) (sym c.in_default-literal_text.ensures)
 
 pub returns : goal.returns
 returns g c = text_first c.args.tokens.now c.in-Some.token.now c.in-Some.ensures

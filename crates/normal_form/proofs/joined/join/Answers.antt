@@ -18,11 +18,13 @@ pub loop-place-preserved : goal.loop-place-preserved
 loop-place-preserved c =
     elim c.if-place-lists.branch [
       | then-place-lists w ↦
-          (some_pays (map named c.args.names.now) c.args.lists.now c.loop-place.place _ c.loop-place.rows _ c.index-lists-place.result _ c.loop-place-test.true c.index-lists-place.is
+          (some_pays (map named c.args.names.now) c.args.lists.now c.loop-place.place _ c.loop-place.rows _ c.index-lists-place.result _ c.loop-place-test.true
+          c.index-lists-place.is
           c.as_slice-list.ensures c.as_slice.ensures c.in_ok-extend_all.field-0 c.in_ok-extend_all.ensures c.args.limit c.loop-place.invariant c.in-Some.more c.in-Some.is
           c.if-place-lists.left w.if-place-lists.true (w.left-is ∙ ap (λ n. c.loop-place.left - n) (ap length w.as_slice-then-place-lists.ensures))).1
       | else-place-lists w ↦
-          some_free (map named c.args.names.now) c.args.lists.now c.loop-place.place _ c.loop-place.rows _ c.index-lists-place.result _ c.loop-place-test.true c.index-lists-place.is
+          some_free (map named c.args.names.now) c.args.lists.now c.loop-place.place _ c.loop-place.rows _ c.index-lists-place.result _ c.loop-place-test.true
+          c.index-lists-place.is
           c.as_slice-list.ensures c.as_slice.ensures c.in_ok-extend_all.field-0 c.in_ok-extend_all.ensures c.args.limit c.loop-place.invariant c.in-Some.more c.in-Some.is
           c.if-place-lists.left w.if-place-lists.false w.left-is
     ]

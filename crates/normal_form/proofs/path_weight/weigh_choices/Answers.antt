@@ -37,7 +37,8 @@ loop-choice-preserved c =
     let weight = choice_weight graph path in
     let made : Alternative → List Finding = λ choice. map (λ (shape : Shape). (shape, choice)) (shapes_of graph path choice) in
     let before = c.loop-choice.gathering in
-    let more : IsGathering before.left (weight c.choice-item.result) (fold (with_finding c.args.place) before.merged.blocks.items (made c.choice-item.result)) c.in-Some.more = subst
+    let more : IsGathering before.left (weight c.choice-item.result) (fold (with_finding c.args.place) before.merged.blocks.items (made c.choice-item.result)) c.in-Some.more
+    = subst
     (λ (o : Option Gathering). IsGathered before.left (weight c.choice-item.result) (fold (with_finding c.args.place) before.merged.blocks.items (made c.choice-item.result)) o)
     c.in-Some.is c.in_ok-weigh_choice.ensures in
     let within : c.loop-choice.gathering.left ≤ c.args.amount = c.loop-choice.invariant.1 in

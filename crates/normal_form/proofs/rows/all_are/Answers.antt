@@ -15,13 +15,15 @@ loop-place-preserved c =
       | else-is_one_of-via-then-is_one_of+else-elements-place w ↦
           let hit : list_any (bytes_eq c.args.name.now) c.index-tags-place.result.names ≡ true = cc in
           let same : get_or c.as_slice-elements.result.now c.loop-place.place 0 ≡ c.args.element = cc in
-          sym (ap (list_all (nat_eq c.args.element)) (tagged_hit c.args.name.now c.as_slice-tags.result.now c.as_slice-elements.result.now c.loop-place.place c.index-tags-place.result
+          sym (ap (list_all (nat_eq c.args.element)) (tagged_hit c.args.name.now c.as_slice-tags.result.now c.as_slice-elements.result.now c.loop-place.place
+          c.index-tags-place.result
           c.loop-place-test.true c.if-place-elements.false c.index-tags-place.is 0 hit)
           ∙ as_before c.args.element _ _ same)
           ∙ c.loop-place.invariant
       | else-is_one_of-via-else-is_one_of w ↦
           let miss : list_any (bytes_eq c.args.name.now) c.index-tags-place.result.names ≡ false = cc in
-          sym (ap (list_all (nat_eq c.args.element)) (tagged_miss c.args.name.now c.as_slice-tags.result.now c.as_slice-elements.result.now c.loop-place.place c.index-tags-place.result
+          sym (ap (list_all (nat_eq c.args.element)) (tagged_miss c.args.name.now c.as_slice-tags.result.now c.as_slice-elements.result.now c.loop-place.place
+          c.index-tags-place.result
           c.loop-place-test.true c.if-place-elements.false c.index-tags-place.is miss))
           ∙ c.loop-place.invariant
     ]

@@ -17,6 +17,8 @@ alternatives_of-requires-clause-there c = λ choice h.
 pub returns-in_ok-more-in-len1-up : goal.returns-in_ok-more-in-len1-up
 returns-in_ok-more-in-len1-up c =
     subst (λ x. IfOk c.combined.result (λ made. made.items ≡ x))
-    (ap apart (rejoined (λ (choice : Alternative). choice_conditions c.args.scene.now.catalog.now c.args.scene.now.graph.now c.args.scene.now.prefix (expansion_of c.args.path.now choice) c.args.spots.now)
-    c.args.alternatives.now c.first-item.result c.in_ok-own-in-len1-up.own.items (map (λ (a : Vec SqlCondition Global). a.items) c.in_ok-more-in-len1-up.more.items) c.first-item.is (omega arith)
+    (ap apart (rejoined (λ (choice : Alternative). choice_conditions c.args.scene.now.catalog.now c.args.scene.now.graph.now c.args.scene.now.prefix
+    (expansion_of c.args.path.now choice) c.args.spots.now)
+    c.args.alternatives.now c.first-item.result c.in_ok-own-in-len1-up.own.items (map (λ (a : Vec SqlCondition Global). a.items) c.in_ok-more-in-len1-up.more.items)
+    c.first-item.is (omega arith)
     c.in_ok-own-in-len1-up.ensures c.in_ok-more-in-len1-up.ensures)) c.combined.ensures

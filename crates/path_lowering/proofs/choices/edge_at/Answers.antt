@@ -17,4 +17,5 @@ edge_conditions-requires-clause-one_way c = c.requires.between.readable.one_way
 pub returns : goal.returns
 returns c =
     subst (λ x. IfOk c.edge_conditions.result (λ made. made.items ≡ x))
-    (sym (between_is c.args.scene.now.catalog.now c.args.scene.now.graph.now c.args.scene.now.prefix c.args.spots.now c.args.place c.args.direction c.requires.between)) c.edge_conditions.ensures
+    (sym (between_is c.args.scene.now.catalog.now c.args.scene.now.graph.now c.args.scene.now.prefix c.args.spots.now c.args.place c.args.direction c.requires.between))
+    c.edge_conditions.ensures

@@ -15,7 +15,8 @@ use Rattle.path_lowering.proofs.laws.pieces_law.Goals as goal
 
 pub returns-clause-edge : goal.returns-clause-edge
 returns-clause-edge c = λ catalog graph instance prefix env rows spots valid fits shows place direction left edge right l e r lk ek rk may.
-    edge_means catalog graph instance prefix env rows spots valid fits shows edge (got_in spots place edge e) ek direction left right (got_in spots (place - 1) left l) (got_in spots (place + 1) right r) lk rk may
+    edge_means catalog graph instance prefix env rows spots valid fits shows edge (got_in spots place edge e) ek direction left right (got_in spots (place - 1) left l)
+    (got_in spots (place + 1) right r) lk rk may
     ∙ sym (ap₂ (λ a b. allows direction (leads (edge_of graph edge.element (row_at rows edge)) a b) (leads (edge_of graph edge.element (row_at rows edge)) b a))
     (slice_get-map (standing graph rows) spots (place - 1) ∙ ap (option_map (standing graph rows)) l)
     (slice_get-map (standing graph rows) spots (place + 1) ∙ ap (option_map (standing graph rows)) r))

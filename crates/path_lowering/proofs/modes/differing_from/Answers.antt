@@ -10,4 +10,5 @@ differing-requires-clause-b c = c.requires.keys _ (in_at c.args.others.now c.loo
 pub differing-requires-clause-many : goal.differing-requires-clause-many
 differing-requires-clause-many c =
     let other = get_or c.args.others.now c.loop-other.other-index (record { kind = Vertex; element = 0; item = 0 }) in
-    keys_alike c.args.scene.now.graph.now c.args.spot.now other (c.requires.kinds other (in_at c.args.others.now c.loop-other.other-index (record { kind = Vertex; element = 0; item = 0 }) c.loop-other-test.true)) (omega arith)
+    keys_alike c.args.scene.now.graph.now c.args.spot.now other
+    (c.requires.kinds other (in_at c.args.others.now c.loop-other.other-index (record { kind = Vertex; element = 0; item = 0 }) c.loop-other-test.true)) (omega arith)

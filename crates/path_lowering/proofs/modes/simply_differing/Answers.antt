@@ -7,7 +7,8 @@ use Rattle.path_lowering.proofs.modes.simply_differing.Goals as goal
 
 pub differing_from-requires-clause-keys : goal.differing_from-requires-clause-keys
 differing_from-requires-clause-keys c = λ other h.
-    c.requires.keys other (in_drop other c.args.spots.now 1 (in_take other (drop 1 c.args.spots.now) (length c.args.spots.now - 1) (in_front other _ (subst (IsIn other) c.front_of.ensures h))))
+    c.requires.keys other (in_drop other c.args.spots.now 1
+    (in_take other (drop 1 c.args.spots.now) (length c.args.spots.now - 1) (in_front other _ (subst (IsIn other) c.front_of.ensures h))))
 
 pub differing_from-requires-clause-kinds : goal.differing_from-requires-clause-kinds
 differing_from-requires-clause-kinds c = λ other h.
@@ -16,4 +17,5 @@ differing_from-requires-clause-kinds c = λ other h.
 
 pub all_differing-requires-clause-kinds : goal.all_differing-requires-clause-kinds
 all_differing-requires-clause-kinds c = λ a b h k.
-    c.requires.kinds a b (in_drop a c.args.spots.now 1 (in_take a (drop 1 c.args.spots.now) (length c.args.spots.now - 1) h)) (in_drop b c.args.spots.now 1 (in_take b (drop 1 c.args.spots.now) (length c.args.spots.now - 1) k))
+    c.requires.kinds a b (in_drop a c.args.spots.now 1 (in_take a (drop 1 c.args.spots.now) (length c.args.spots.now - 1) h))
+    (in_drop b c.args.spots.now 1 (in_take b (drop 1 c.args.spots.now) (length c.args.spots.now - 1) k))

@@ -22,5 +22,6 @@ returns-clause-means c =
     let is = c.in_ok-slots.ensures ∙ ap (λ l. put_into (aliases_of l) c.args.conditions.items 0 l) c.in_ok-open_slots.ensures in
     if_both c.chained.result _ _ _ (λ made f w. λ catalog instance tuple.
     ap₂ (λ x y. list_all (holds catalog tuple) (all_members x) && list_all (λ conjunct. conjunct_holds catalog instance conjunct tuple) y)
-    (f ∙ from_filled c.args.sources.items c.args.conditions.items c.in_ok-slots.slots.items is) (w ∙ where_filled c.args.sources.items c.args.conditions.items c.in_ok-slots.slots.items c.requires is)
+    (f ∙ from_filled c.args.sources.items c.args.conditions.items c.in_ok-slots.slots.items is)
+    (w ∙ where_filled c.args.sources.items c.args.conditions.items c.in_ok-slots.slots.items c.requires is)
     ∙ placing_means catalog instance tuple c.args.sources.items c.args.conditions.items c.requires) c.chained.ensures.from c.chained.ensures.conjuncts

@@ -6,4 +6,5 @@ use Rattle.path_lowering.proofs.plans.plan_blocks.Goals as goal
 
 pub plans_of-requires : goal.plans_of-requires
 plans_of-requires c = λ block h.
-    plannable c.args.catalog.now c.args.query.now c.requires.served (c.empty_tables_fit.ensures c.args.catalog.now) block (subst (λ (l : List Block). IsIn block l) c.requires.blocks h)
+    plannable c.args.catalog.now c.args.query.now c.requires.served (c.empty_tables_fit.ensures c.args.catalog.now) block
+    (subst (λ (l : List Block). IsIn block l) c.requires.blocks h)

@@ -9,5 +9,6 @@ plan_of_block-requires c = c.requires c.block-item.result (item_in c.args.blocks
 
 pub loop-block-preserved : goal.loop-block-preserved
 loop-block-preserved c =
-    mapped_next (plan_of_block c.args.query.now) c.args.blocks.now c.loop-block.block-index c.block-item.result c.in_ok-plan_of_block.field-0 c.loop-block.made c.push.new.self c.block-item.is
+    mapped_next (plan_of_block c.args.query.now) c.args.blocks.now c.loop-block.block-index c.block-item.result c.in_ok-plan_of_block.field-0 c.loop-block.made c.push.new.self
+    c.block-item.is
     c.loop-block-test.true c.loop-block.invariant c.in_ok-plan_of_block.ensures c.in_ok-push.ensures.ok

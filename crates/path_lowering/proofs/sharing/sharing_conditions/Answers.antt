@@ -13,4 +13,5 @@ same_keys-requires-clause-keys c = λ spot h.
 pub same_keys-requires-clause-alike : goal.same_keys-requires-clause-alike
 same_keys-requires-clause-alike c = λ a b h k.
     let is = c.as_slice.ensures.value ∙ c.in_ok-spots.ensures in
-    c.requires.alike _ a b (in_map (λ n. n.now) c.name-item.result c.args.names.now (item_in c.args.names.now c.loop-name.name-index c.name-item.result c.name-item.is c.loop-name-test.true)) (subst (IsIn a) is h) (subst (IsIn b) is k)
+    c.requires.alike _ a b (in_map (λ n. n.now) c.name-item.result c.args.names.now
+    (item_in c.args.names.now c.loop-name.name-index c.name-item.result c.name-item.is c.loop-name-test.true)) (subst (IsIn a) is h) (subst (IsIn b) is k)

@@ -53,7 +53,8 @@ returns-clause-answer c =
     let none : c.later_fault.result ≡ None = search rules in
     let later : later_fault catalog (graph_at catalog c.place_of-place.result) tree ≡ None = sym (c.later_fault.ensures ∙ ap
     (λ g. later_fault catalog g tree) c.graph_at.ensures) ∙ none in
-    subst (λ asked. Gives asked c.weighed.result) (weighed_due catalog tree c.place_of-place.result c.in_ok-query.query early c.place_of-place.ensures.place later c.in_ok-query.ensures) c.weighed.ensures
+    subst (λ asked. Gives asked c.weighed.result) (weighed_due catalog tree c.place_of-place.result c.in_ok-query.query early c.place_of-place.ensures.place later
+    c.in_ok-query.ensures) c.weighed.ensures
 
 pub returns-clause-lowerable : goal.returns-clause-lowerable
 returns-clause-lowerable c =
@@ -64,4 +65,5 @@ returns-clause-lowerable c =
     let later : later_fault catalog (graph_at catalog c.place_of-place.result) tree ≡ None = sym (c.later_fault.ensures ∙ ap
     (λ g. later_fault catalog g tree) c.graph_at.ensures) ∙ none in
     given_lowerable catalog tree c.weighed.result
-    (subst (λ asked. Gives asked c.weighed.result) (weighed_due catalog tree c.place_of-place.result c.in_ok-query.query early c.place_of-place.ensures.place later c.in_ok-query.ensures) c.weighed.ensures)
+    (subst (λ asked. Gives asked c.weighed.result) (weighed_due catalog tree c.place_of-place.result c.in_ok-query.query early c.place_of-place.ensures.place later
+    c.in_ok-query.ensures) c.weighed.ensures)

@@ -9,5 +9,6 @@ pub returns-clause-told : goal.returns-clause-told
 returns-clause-told g c =
     with_query (λ told. IsSqlAt c.args.catalog.now c.args.sql.now told) names_of (λ query told. rows_at c.args.catalog.now query c.args.words.now c.args.places.now told)
     c.in_ok-query.query _ c.table_at.result c.in_ok-query.ensures.told
-    (subst (λ files. IfSome files (λ told. WritesTable (names_of c.in_ok-query.query) (rows_at c.args.catalog.now c.in_ok-query.query c.args.words.now c.args.places.now told) c.table_at.result))
+    (subst (λ files. IfSome files (λ told. WritesTable (names_of c.in_ok-query.query) (rows_at c.args.catalog.now c.in_ok-query.query c.args.words.now c.args.places.now told)
+    c.table_at.result))
     c.in_ok-query.ensures.files c.table_at.ensures.told)

@@ -6,7 +6,8 @@ use Rattle.pgq_program.proofs.evaluation.read_query_text.Goals as goal
 
 pub returns-clause-due : goal.returns-clause-due
 returns-clause-due c =
-    at_sql c.args.catalog.now c.args.text.now c.in_ok-tokens.tokens c.read_sql.result c.in_ok-tokens.ensures.tokens c.in_ok-tokens.ensures.few c.as_slice.result.now c.as_slice.ensures (length c.args.text.now) refl c.read_sql.ensures.ok c.read_sql.ensures.refused
+    at_sql c.args.catalog.now c.args.text.now c.in_ok-tokens.tokens c.read_sql.result c.in_ok-tokens.ensures.tokens c.in_ok-tokens.ensures.few c.as_slice.result.now
+    c.as_slice.ensures (length c.args.text.now) refl c.read_sql.ensures.ok c.read_sql.ensures.refused
 
 pub returns-clause-sound : goal.returns-clause-sound
 returns-clause-sound c =

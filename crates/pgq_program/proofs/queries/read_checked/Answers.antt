@@ -7,7 +7,8 @@ use Rattle.pgq_program.proofs.queries.read_checked.Goals as goal
 
 pub returns-clause-due : goal.returns-clause-due
 returns-clause-due c =
-    at_rules c.args.catalog.now c.args.text.now c.in_ok-tokens.tokens c.in_ok-tree.tree c.judge.result c.in_ok-tokens.ensures.tokens c.in_ok-tokens.ensures.few c.as_slice.result.now c.as_slice.ensures c.in_ok-tree.ensures.ok c.in_ok-tree.ensures.shallow c.judge.ensures
+    at_rules c.args.catalog.now c.args.text.now c.in_ok-tokens.tokens c.in_ok-tree.tree c.judge.result c.in_ok-tokens.ensures.tokens c.in_ok-tokens.ensures.few
+    c.as_slice.result.now c.as_slice.ensures c.in_ok-tree.ensures.ok c.in_ok-tree.ensures.shallow c.judge.ensures
 
 pub returns-clause-translatable : goal.returns-clause-translatable
 returns-clause-translatable c =

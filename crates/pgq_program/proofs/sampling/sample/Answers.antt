@@ -9,6 +9,6 @@ use Rattle.pgq_program.proofs.sampling.sample.Goals as goal
 
 pub returns-clause-told : goal.returns-clause-told
 returns-clause-told c =
-    summarised c.args.count c.in_ok-query.query c.in_ok-query.ensures.due c.in_ok-rows.rows c.in_ok-summary_of.field-0 c.in_ok-rows.ensures
+    summarised c.args.count c.in_ok-query.query c.in_ok-query.ensures.due c.in_ok-rows.rows c.in_ok-summary_of.field-0 c.in_ok-rows.ensures.rows
     (subst (λ l. c.in_ok-summary_of.field-0 ≡ sample_summary c.args.count (3 * c.args.count) (length l) (length (distinct same_values (map values_of l)))) c.as_slice.ensures
     c.in_ok-summary_of.ensures)

@@ -7,11 +7,13 @@ returns-clause-done g c = done_if c.decide-said.result c.tell.result c.tell.ensu
 
 pub returns-clause-complete : goal.returns-clause-complete
 returns-clause-complete g c =
-    complete_if c.decide-said.result c.tell.result c.tell.ensures.status _ _ _ _ _ _ c.tell.ensures.fault _ _ (command_of c.args.words.now) _ c.decide-said.ensures.complete c.tell.ensures.out
+    complete_if c.decide-said.result c.tell.result c.tell.ensures.status _ _ _ _ _ _ c.tell.ensures.fault _ _ (command_of c.args.words.now) _ c.decide-said.ensures.complete
+    c.tell.ensures.out
 
 pub returns-clause-refused : goal.returns-clause-refused
 returns-clause-refused g c =
-    refused_if c.decide-said.result c.tell.result c.tell.ensures.status _ _ _ _ _ _ c.tell.ensures.fault _ _ (command_of c.args.words.now) _ c.decide-said.ensures.refused c.tell.ensures.err
+    refused_if c.decide-said.result c.tell.result c.tell.ensures.status _ _ _ _ _ _ c.tell.ensures.fault _ _ (command_of c.args.words.now) _ c.decide-said.ensures.refused
+    c.tell.ensures.err
 
 pub returns-clause-used : goal.returns-clause-used
 returns-clause-used g c =

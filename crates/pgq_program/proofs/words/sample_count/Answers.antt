@@ -13,7 +13,8 @@ returns-then-count-lt1 c = sym (not_within c.args.word.now c.parse.result c.pars
 pub returns-then-eq : goal.returns-then-eq
 returns-then-eq c =
     let is : c.as_str.result.now ≡ decimal c.in-Ok.count = search rules in
-    sym (count_is c.args.word.now c.in-Ok.count c.if-count-lt1.false c.if-count-gt-MOST_PERSONS.false (sym ((bytes_decides c.as_str.result.now c.args.word.now).0 (sym c.if-eq.ensures)) ∙ is))
+    sym (count_is c.args.word.now c.in-Ok.count c.if-count-lt1.false c.if-count-gt-MOST_PERSONS.false
+    (sym ((bytes_decides c.as_str.result.now c.args.word.now).0 (sym c.if-eq.ensures)) ∙ is))
 
 pub returns : goal.returns
 returns c =

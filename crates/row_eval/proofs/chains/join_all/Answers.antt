@@ -20,16 +20,16 @@ legs-preserved g c =
       front = front_left all now new leg front is;
       chain = λ s long.
           c.in_ok-planned.ensures.found s (omega (arith, long))
-          ∙ ap (λ ways. passed_on (found T c.legs.planned.stage) leg.tests s (narrowed ways s (rows_at T leg.table))) c.as_slice.ensures
-          ∙ passed_same (found T c.legs.planned.stage) (chain_found T (drop (length now) all) (found T c.args.end.stage)) leg.tests s
+          ∙ ap (λ ways. passed_on (found T c.legs.planned.stages) leg.tests s (narrowed ways s (rows_at T leg.table))) c.as_slice.ensures
+          ∙ passed_same (found T c.legs.planned.stages) (chain_found T (drop (length now) all) (found T c.args.end.stages)) leg.tests s
           (λ row. c.legs.invariant.chain (s ++ row ∷ []) (omega (arith, long, shorter, stack_longer s row))) (narrowed leg.ways s (rows_at T leg.table))
-          ∙ ap (λ legs. chain_found T legs (found T c.args.end.stage) s) (sym (back_longer all now new leg front is));
+          ∙ ap (λ legs. chain_found T legs (found T c.args.end.stages) s) (sym (back_longer all now new leg front is));
       read = λ s long.
           c.in_ok-planned.ensures.visits s (omega (arith, long))
-          ∙ ap (λ ways. visits_passed (visits T c.legs.planned.stage) leg.tests s (tied_rows leg.tests s (narrowed ways s (rows_at T leg.table)))) c.as_slice.ensures
-          ∙ visits_alike (visits T c.legs.planned.stage) (chain_visits T (drop (length now) all) (visits T c.args.end.stage)) leg.tests s
+          ∙ ap (λ ways. visits_passed (visits T c.legs.planned.stages) leg.tests s (tied_rows leg.tests s (narrowed ways s (rows_at T leg.table)))) c.as_slice.ensures
+          ∙ visits_alike (visits T c.legs.planned.stages) (chain_visits T (drop (length now) all) (visits T c.args.end.stages)) leg.tests s
           (λ row. c.legs.invariant.read (s ++ row ∷ []) (omega (arith, long, shorter, stack_longer s row))) (tied_rows leg.tests s (narrowed leg.ways s (rows_at T leg.table)))
-          ∙ ap (λ legs. chain_visits T legs (visits T c.args.end.stage) s) (sym (back_longer all now new leg front is));
+          ∙ ap (λ legs. chain_visits T legs (visits T c.args.end.stages) s) (sym (back_longer all now new leg front is));
       steps = (let fewer = rows_popped T now new leg is in let read = c.in_ok-planned.ensures.steps in omega (arith, fewer, read, c.legs.invariant.steps));
       served = λ h. c.in_ok-planned.ensures.served (c.legs.invariant.served h);
       kept = λ all h. c.in_ok-planned.ensures.kept all (c.legs.invariant.kept all h);

@@ -11,6 +11,6 @@ loop-place-preserved c = λ q.
     let within : i < length c.args.lent.now = omega arith in
     let same = lent_at c.args.lent.now i c.index-lent-place.result within c.index-lent-place.is in
     let places = λ (l : _). places_from (λ row. is_code q (row_code c.args.tied.now row)) 0 l in
-    c.in_ok-add_place.ensures q ∙ ap (λ l. cond (is_code q c.code_of_row.result) (l ++ i ∷ []) l) (c.loop-place.invariant q)
-    ∙ ap (λ code. cond (is_code q code) (places (take i all) ++ i ∷ []) (places (take i all))) (c.code_of_row.ensures ∙ ap (row_code c.args.tied.now) same.1)
+    c.in_ok-add_place.ensures q ∙ ap (λ l. cond (is_code q c.code_of_row-code.result) (l ++ i ∷ []) l) (c.loop-place.invariant q)
+    ∙ ap (λ code. cond (is_code q code) (places (take i all) ++ i ∷ []) (places (take i all))) (c.code_of_row-code.ensures ∙ ap (row_code c.args.tied.now) same.1)
     ∙ sym (places_more (λ row. is_code q (row_code c.args.tied.now row)) all i same.0)

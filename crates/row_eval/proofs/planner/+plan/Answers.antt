@@ -50,29 +50,31 @@ plan_absent-loop-conjunct-preserved g t c =
         read = (let more = tables_more catalog T all i c.conjunct-item.result inside c.conjunct-item.is in let same = w.steps-is in let read = now.read in
             omega (arith, more, same, read));
         served = subst (λ (indexes : List Index). AllServed T indexes (accesses c.match-conjunct.end)) (sym (ap (λ (v : Vec Index Global). v.items) w.indexes-is))
-            (subst (λ (e : Stage). AllServed T c.loop-conjunct.indexes.items (accesses e)) (sym w.end-is) now.served);
+            (subst (λ (e : List Stage). AllServed T c.loop-conjunct.indexes.items (accesses e)) (sym w.end-is) now.served);
         kept = λ l h. subst (λ (indexes : List Index). AllServed T indexes l) (sym (ap (λ (v : Vec Index Global). v.items) w.indexes-is)) (now.kept l h);
       }
       | plan_absent-in-NotExists+in_ok-inner-in-NotExists+in_ok-end-in-NotExists w ↦
           let inner = w.in_ok-inner-in-NotExists.inner in
           let told = w.in_ok-inner-in-NotExists.ensures in
           let made = w.in_ok-end-in-NotExists.ensures in
-          let plan : IsPlanOf catalog T w.in-NotExists.select reach inner.stage = subst (λ (s : Select). IsPlanOf catalog T s reach inner.stage) w.get.ensures told.found in
+          let plan : IsPlanOf catalog T w.in-NotExists.select reach inner.stages = subst (λ (s : Select). IsPlanOf catalog T s reach inner.stages) w.get.ensures told.found in
           let grown : c.match-conjunct.indexes.items ≡ inner.indexes.items = ap (λ (v : Vec Index Global). v.items) w.indexes-is in
-          let bound : IsWithin catalog T w.in-NotExists.select reach inner.stage = subst (λ (s : Select). IsWithin catalog T s reach inner.stage) w.get.ensures told.within in
+          let bound : IsWithin catalog T w.in-NotExists.select reach inner.stages = subst (λ (s : Select). IsWithin catalog T s reach inner.stages) w.get.ensures told.within in
           let tables : rows_in catalog T (tables_of_conjunct c.conjunct-item.result) ≡ rows_in catalog T (tables_in w.get.result.now) =
           ap (rows_in catalog T) (tables_absent c.conjunct-item.result w.in-NotExists.select w.in-NotExists.is)
           ∙ ap (λ (s : Select). rows_in catalog T (tables_in s)) (sym w.get.ensures) in
           record {
             reads_within = subst (IsEndWithin catalog T (take (i + 1) all) reach) (sym w.end-is)
-                (within_absent catalog T reach all i c.conjunct-item.result w.in-NotExists.select inner.stage c.loop-conjunct.end w.in_ok-end-in-NotExists.end inside c.conjunct-item.is w.in-NotExists.is made bound now.reads_within);
+                (within_absent catalog T reach all i c.conjunct-item.result w.in-NotExists.select inner.stages c.loop-conjunct.end w.in_ok-end-in-NotExists.end inside
+                c.conjunct-item.is w.in-NotExists.is made bound now.reads_within);
             read = (let more = tables_more catalog T all i c.conjunct-item.result inside c.conjunct-item.is in let same = w.steps-is in let read = now.read in
                 let one = told.steps in omega (arith, more, same, read, one, tables));
             ends = subst (IsEndOf catalog T (take (i + 1) all) reach) (sym w.end-is)
-                (end_absent catalog T reach all i c.conjunct-item.result w.in-NotExists.select inner.stage c.loop-conjunct.end w.in_ok-end-in-NotExists.end inside c.conjunct-item.is w.in-NotExists.is made plan now.ends);
+                (end_absent catalog T reach all i c.conjunct-item.result w.in-NotExists.select inner.stages c.loop-conjunct.end w.in_ok-end-in-NotExists.end inside
+                c.conjunct-item.is w.in-NotExists.is made plan now.ends);
             served = subst (λ (indexes : List Index). AllServed T indexes (accesses c.match-conjunct.end)) (sym grown)
-                (subst (λ (e : Stage). AllServed T inner.indexes.items (accesses e)) (sym w.end-is)
-                (absent_served T inner.indexes.items inner.stage c.loop-conjunct.end w.in_ok-end-in-NotExists.end made told.served
+                (subst (λ (e : List Stage). AllServed T inner.indexes.items (accesses e)) (sym w.end-is)
+                (absent_served T inner.indexes.items inner.stages c.loop-conjunct.end w.in_ok-end-in-NotExists.end made told.served
                 (told.kept (accesses c.loop-conjunct.end) now.served)));
             kept = λ l h. subst (λ (indexes : List Index). AllServed T indexes l) (sym grown) (told.kept l (now.kept l h));
           }

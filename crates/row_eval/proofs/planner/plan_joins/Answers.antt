@@ -3,6 +3,8 @@ use Rattle.std.specs.List.{list_all}
 use Rattle.sql_algebra.specs.Soundness.{condition_is_sound}
 use Rattle.row_eval.specs.Scopes.{placed}
 use Rattle.row_eval.specs.Plans.{items_in, conditions_in}
+use Rattle.row_eval.specs.Served.{AllServed}
+use Rattle.row_eval.proofs.StageLemmas.{accesses-Keep}
 use Rattle.row_eval.proofs.PlanLemmas.{sound_parts, reach_items}
 use Rattle.row_eval.proofs.PlannerLemmas.{legs_below, legs_within, legs_long, reach_size, joins_plan}
 use Rattle.row_eval.proofs.ReadsLemmas.{joins_within, legs_read}
@@ -33,7 +35,7 @@ returns-clause-found g c =
     let small : length c.args.outer.now + length c.in_ok-sorted.sorted.legs.items < 2 ^ 64 - 1 = omega arith in
     joins_plan c.args.planner.now.catalog.now
     (g.R.RowSource.tables c.args.planner.now.rows.now) c.requires.meets c.args.select.now c.args.outer.now c.args.reach.now c.requires.sound c.requires.below c.requires.reach
-    c.in_ok-sorted.sorted c.args.end.stage c.in_ok-joined.joined.stage c.in_ok-stage.stage c.in_ok-stage.ensures c.in_ok-joined.ensures.found c.requires.end small
+    c.in_ok-sorted.sorted c.args.end.stages c.in_ok-joined.joined.stages c.in_ok-stages.stages c.in_ok-stages.ensures c.in_ok-joined.ensures.found c.requires.end small
     c.in_ok-sorted.ensures.sorted c.in_ok-sorted.ensures.narrow c.in_ok-sorted.ensures.tables c.in_ok-sorted.ensures.all
 
 pub returns-clause-within : goal.returns-clause-within
@@ -45,7 +47,7 @@ returns-clause-within g c =
     let small : length c.args.outer.now + length c.in_ok-sorted.sorted.legs.items < 2 ^ 64 - 1 = omega arith in
     joins_within c.args.planner.now.catalog.now
     (g.R.RowSource.tables c.args.planner.now.rows.now) c.requires.meets c.args.select.now c.args.outer.now c.args.reach.now c.requires.sound c.requires.below c.requires.reach
-    c.in_ok-sorted.sorted c.args.end.stage c.in_ok-joined.joined.stage c.in_ok-stage.stage c.in_ok-stage.ensures c.in_ok-joined.ensures.visits c.requires.within small
+    c.in_ok-sorted.sorted c.args.end.stages c.in_ok-joined.joined.stages c.in_ok-stages.stages c.in_ok-stages.ensures c.in_ok-joined.ensures.visits c.requires.within small
     c.in_ok-sorted.ensures.sorted c.in_ok-sorted.ensures.tables c.in_ok-sorted.ensures.all
 
 pub returns-in_err-joined-clause-steps : goal.returns-in_err-joined-clause-steps
@@ -55,12 +57,19 @@ returns-in_err-joined-clause-steps g c =
     (g.R.RowSource.tables c.args.planner.now.rows.now) c.in_ok-sorted.sorted.legs.items c.args.select.now.from c.in_ok-sorted.ensures.tables in
     omega (arith, read, same)
 
-pub returns-in_err-stage-clause-steps : goal.returns-in_err-stage-clause-steps
-returns-in_err-stage-clause-steps g c =
+pub returns-in_err-stages-clause-steps : goal.returns-in_err-stages-clause-steps
+returns-in_err-stages-clause-steps g c =
     let read = c.join_all.ensures.steps in
     let same = legs_read c.args.planner.now.catalog.now
     (g.R.RowSource.tables c.args.planner.now.rows.now) c.in_ok-sorted.sorted.legs.items c.args.select.now.from c.in_ok-sorted.ensures.tables in
     omega (arith, read, same)
+
+pub returns-clause-served : goal.returns-clause-served
+returns-clause-served g c =
+    let T = g.R.RowSource.tables c.args.planner.now.rows.now in
+    let joined = c.in_ok-joined.joined in
+    subst (AllServed T joined.indexes.items) (sym (accesses-Keep c.in_ok-stages.stages c.in_ok-sorted.sorted.first joined.stages c.in_ok-stages.ensures))
+    (c.in_ok-joined.ensures.served c.requires.served)
 
 pub returns-clause-steps : goal.returns-clause-steps
 returns-clause-steps g c =

@@ -19,7 +19,8 @@ returns-clause-sorted c =
     let i = c.saturating_sub-number.result - 1 in
     let within : i < length c.args.sorted.legs.items = omega arith in
     let level : level_in c.args.condition.expr ≡ c.args.depth + (i + 1) = omega arith in
-    leg_sorted leg new c.args.condition c.in_ok-push-2.ensures.ok refl c.args.depth c.args.sorted.first c.args.sorted.legs.items i within c.index_mut.ensures.value level c.requires.sorted
+    leg_sorted leg new c.args.condition c.in_ok-push-2.ensures.ok refl c.args.depth c.args.sorted.first c.args.sorted.legs.items i within c.index_mut.ensures.value level
+    c.requires.sorted
 
 pub returns-clause-tables : goal.returns-clause-tables
 returns-clause-tables c =

@@ -21,7 +21,8 @@ conjuncts_faults-loop-conjunct-preserved t c =
 pub select_faults-returns : goal.select_faults-returns
 select_faults-returns t c =
     lifted _ (λ all. all ≡ first_of c.args.found (select_faults c.args.phase c.args.tables.now c.args.select.now (reach_of c.args.outer.now)))
-    (λ all last. judged_select c.args.phase c.args.tables.now c.args.select.now _ c.args.outer c.args.found c.in_ok-found.found c.columns_faults-found.result c.in_ok-found-2.found all
+    (λ all last. judged_select c.args.phase c.args.tables.now c.args.select.now _ c.args.outer c.args.found c.in_ok-found.found c.columns_faults-found.result
+    c.in_ok-found-2.found all
     c.as_slice.result.now c.as_slice-from.result.now c.as_slice-conjuncts.result.now
     c.in_ok-found.ensures c.columns_faults-found.ensures c.in_ok-found-2.ensures last c.in_ok-items.ensures c.as_slice.ensures c.as_slice-from.ensures c.as_slice-conjuncts.ensures)
     c.conjuncts_faults.result c.conjuncts_faults.ensures

@@ -6,4 +6,5 @@ use Rattle.sql_reader.specs.Phases.{value_faults}
 use Rattle.sql_reader.proofs.phases.columns_faults.Given as goal
 
 abbrev pub invariant-loop-column : goal.invariant-loop-column
-invariant-loop-column l = first_of l.found (flat_map (λ column. value_faults l.phase (reach_of l.scope) column.value) (drop l.column-index l.columns)) ≡ first_of l.fn.found (flat_map (λ column. value_faults l.phase (reach_of l.scope) column.value) l.columns)
+invariant-loop-column l = first_of l.found (flat_map (λ column. value_faults l.phase (reach_of l.scope) column.value) (drop l.column-index l.columns))
+    ≡ first_of l.fn.found (flat_map (λ column. value_faults l.phase (reach_of l.scope) column.value) l.columns)

@@ -6,4 +6,5 @@ use Rattle.sql_reader.specs.Phases.{condition_faults}
 use Rattle.sql_reader.proofs.phases.conditions_faults.Given as goal
 
 abbrev pub invariant-loop-condition : goal.invariant-loop-condition
-invariant-loop-condition l = first_of l.found (flat_map (condition_faults l.phase (reach_of l.scope)) (drop l.condition-index l.conditions)) ≡ first_of l.fn.found (flat_map (condition_faults l.phase (reach_of l.scope)) l.conditions)
+invariant-loop-condition l = first_of l.found (flat_map (condition_faults l.phase (reach_of l.scope)) (drop l.condition-index l.conditions))
+    ≡ first_of l.fn.found (flat_map (condition_faults l.phase (reach_of l.scope)) l.conditions)

@@ -4,4 +4,5 @@ use Rattle.sql_reader.specs.Queries.{select_made}
 use Rattle.sql_reader.proofs.queries.selects_made.Given as goal
 
 abbrev pub invariant-loop-select : goal.invariant-loop-select
-invariant-loop-select l = l.made ++ map (λ select. select_made l.tables select (reach_of l.outer)) (drop l.select-index l.selects) ≡ map (λ select. select_made l.tables select (reach_of l.outer)) l.selects
+invariant-loop-select l = l.made ++ map (λ select. select_made l.tables select (reach_of l.outer)) (drop l.select-index l.selects)
+    ≡ map (λ select. select_made l.tables select (reach_of l.outer)) l.selects

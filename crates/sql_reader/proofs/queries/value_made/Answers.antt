@@ -11,4 +11,6 @@ lifted P Q f (Err e) h = tt
 
 pub returns : goal.returns
 returns c = lifted _ (λ made. made ≡ value_made (reach_of c.args.scope.now) c.args.value.now)
-    (λ made exact. exact (leaf_made (reach_of c.args.scope.now)) (each_from_all _ (λ l r post. subst (λ x. IfOk r (λ made. made ≡ leaf_made (reach_of c.args.scope.now) x)) post.shows (let called = post.says.met in search rules)) (leaves_in c.args.value.now.tree))) c.map_leaves.result c.map_leaves.ensures.exact
+    (λ made exact. exact (leaf_made (reach_of c.args.scope.now))
+    (each_from_all _ (λ l r post. subst (λ x. IfOk r (λ made. made ≡ leaf_made (reach_of c.args.scope.now) x)) post.shows (let called = post.says.met in search rules))
+    (leaves_in c.args.value.now.tree))) c.map_leaves.result c.map_leaves.ensures.exact

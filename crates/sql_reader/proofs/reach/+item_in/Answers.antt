@@ -10,7 +10,8 @@ pub returns-in-Some : goal.returns-in-Some
 returns-in-Some t c =
     let scope = out-Scope c.args.scope.now in
     let here : item_of scope.own.now c.args.alias.now ≡ Some (item_held c.in-Some.item.now) = sym c.item.ensures ∙ ap (option_map (λ item. item_held item.now)) c.in-Some.is in
-    sym (ap (λ r. item_of r c.args.alias.now) (at_scope c.args.scope.now) ∙ find_first (λ (p : Placed). bytes_eq p.alias c.args.alias.now) scope.own.now (outside scope.outer) (item_held c.in-Some.item.now) here)
+    sym (ap (λ r. item_of r c.args.alias.now) (at_scope c.args.scope.now) ∙ find_first (λ (p : Placed). bytes_eq p.alias c.args.alias.now) scope.own.now (outside scope.outer)
+    (item_held c.in-Some.item.now) here)
 
 pub returns-in-Some-outer : goal.returns-in-Some-outer
 returns-in-Some-outer t c =

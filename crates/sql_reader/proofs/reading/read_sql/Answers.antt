@@ -8,7 +8,8 @@ use Rattle.sql_reader.proofs.reading.read_sql.Goals as goal
 
 pub returns-in-Ok-clause-due : goal.returns-in-Ok-clause-due
 returns-in-Ok-clause-due c =
-    from_text c.args.tokens.now c.args.end c.args.catalog.now c.in-Ok.text (λ o is. subst (Gives o) c.in-Ok.is (c.parse_sql.ensures.due o is)) c.judge_text.result c.judge_text.ensures.answer
+    from_text c.args.tokens.now c.args.end c.args.catalog.now c.in-Ok.text (λ o is. subst (Gives o) c.in-Ok.is (c.parse_sql.ensures.due o is)) c.judge_text.result
+    c.judge_text.ensures.answer
 
 pub returns-in-Err-clause-due : goal.returns-in-Err-clause-due
 returns-in-Err-clause-due c = from_stop c.args.tokens.now c.args.end c.args.catalog.now c.in-Err.stop (λ o is. subst (Gives o) c.in-Err.is (c.parse_sql.ensures.due o is))
@@ -27,7 +28,8 @@ returns-in-Ok-clause-spelled c =
 
 pub returns-in-Ok-clause-complete : goal.returns-in-Ok-clause-complete
 returns-in-Ok-clause-complete c = λ query spelled sound shallow.
-    from_text c.args.tokens.now c.args.end c.args.catalog.now c.in-Ok.text (λ o is. subst (Gives o) c.in-Ok.is (c.parse_sql.ensures.due o is)) c.judge_text.result c.judge_text.ensures.answer
+    from_text c.args.tokens.now c.args.end c.args.catalog.now c.in-Ok.text (λ o is. subst (Gives o) c.in-Ok.is (c.parse_sql.ensures.due o is)) c.judge_text.result
+    c.judge_text.ensures.answer
     (Ok query) (is_read c.args.tokens.now c.args.catalog.now query spelled sound shallow)
 
 pub returns-in-Err-clause-complete : goal.returns-in-Err-clause-complete

@@ -21,5 +21,6 @@ loop-class-preserved c = λ catalog select at.
     (c.class_of-own.ensures ∙ ap (λ r. class_in (leaf_class r) x.value.tree) at)
     (c.first_span-span.ensures ∙ ap first_span c.as_slice.ensures)
     (c.note-found.ensures ∙ ap (λ b. first_of c.loop-class.found (when (not b) ClassesDiffer c.first_span-span.result)) c.same_class.ensures)
-    ∙ sym (ap (λ l. first_of c.loop-class.found (differing_items catalog select l c.loop-class.columns.now)) classes ∙ ap (λ l. first_of c.loop-class.found (differing_items catalog select (k ∷ ks) l)) columns)
+    ∙ sym (ap (λ l. first_of c.loop-class.found (differing_items catalog select l c.loop-class.columns.now)) classes
+    ∙ ap (λ l. first_of c.loop-class.found (differing_items catalog select (k ∷ ks) l)) columns)
     ∙ c.loop-class.invariant catalog select at

@@ -15,7 +15,8 @@ returns-in_default c = no_sign c.args.word.now c.equals_place.result (subst (Beh
 pub returns-then-is_empty : goal.returns-then-is_empty
 returns-then-is_empty c =
     let none : length c.range_from-file.result.now ≡ 0 = (Decides-eqb (length c.range_from-file.result.now) 0).0 (sym c.is_empty.ensures ∙ c.if-is_empty.true) in
-    no_file c.args.word.now c.in-Some.place (subst (Behind (Some c.in-Some.place)) c.as_bytes.ensures.value c.in-Some.ensures.file) (ap length (sym c.range_from-file.ensures.value) ∙ none)
+    no_file c.args.word.now c.in-Some.place (subst (Behind (Some c.in-Some.place)) c.as_bytes.ensures.value c.in-Some.ensures.file)
+    (ap length (sym c.range_from-file.ensures.value) ∙ none)
 
 pub returns-in-None : goal.returns-in-None
 returns-in-None c =

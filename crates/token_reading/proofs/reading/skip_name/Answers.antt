@@ -7,4 +7,5 @@ pub returns-in_default-name_in : goal.returns-in_default-name_in
 returns-in_default-name_in c = skip_first c.args.tokens.now c.in-Some.token.now c.in-Some.ensures ∙ ap (λ o. unit_at o c.args.tokens.now) (sym c.in_default-name_in.ensures)
 
 pub returns : goal.returns
-returns c = skip_first c.args.tokens.now c.in-Some.token.now c.in-Some.ensures ∙ ap (λ o. unit_at o c.args.tokens.now) (sym c.in-Some-name_in.ensures) ∙ ap (λ l. got tt l) (sym c.skip.ensures)
+returns c = skip_first c.args.tokens.now c.in-Some.token.now c.in-Some.ensures ∙ ap (λ o. unit_at o c.args.tokens.now) (sym c.in-Some-name_in.ensures)
+    ∙ ap (λ l. got tt l) (sym c.skip.ensures)

@@ -6,4 +6,5 @@ use Rattle.view_check.proofs.clauses.are_texts_within.Given as goal
 
 abbrev pub invariant-loop-name : goal.invariant-loop-name
 invariant-loop-name l =
-    list_all (λ x. has_text x (names_in l.entries l.other)) (map (λ n. n.now) (drop l.name-index l.texts)) ≡ list_all (λ x. has_text x (names_in l.entries l.other)) (map (λ n. n.now) l.texts)
+    list_all (λ x. has_text x (names_in l.entries l.other)) (map (λ n. n.now) (drop l.name-index l.texts)) ≡ list_all (λ x. has_text x (names_in l.entries l.other))
+    (map (λ n. n.now) l.texts)

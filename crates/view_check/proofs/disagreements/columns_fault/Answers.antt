@@ -1,4 +1,5 @@
-use Rattle.std.proofs.Common.{rules, ◌≡◌, ◌∙◌, ◌+◌, ◌<◌, ◌≤◌, ◌++◌, [], ◌∷◌, List, ℕ, not, Some, None, Option, length, get_or, drop, map, cond, sym, ap, subst, is_some, slice_get, true, bytes_eq, Bor, MatchOption}
+use Rattle.std.proofs.Common.{rules, ◌≡◌, ◌∙◌, ◌+◌, ◌<◌, ◌≤◌, ◌++◌, [], ◌∷◌, List, ℕ, not, Some, None, Option, length, get_or, drop, map, cond, sym, ap, subst, is_some}
+use Rattle.std.proofs.Common.{slice_get, true, bytes_eq, Bor, MatchOption}
 use Rattle.std.specs.List.{list_any}
 use Rattle.first_faults.specs.Faults.{first_of, when}
 use Rattle.first_faults.specs.Names.{is_among}
@@ -16,5 +17,6 @@ returns-clause-found c =
     let code : c.code_of-code.result ≡ code_of c.args.by.1 = search rules in
     c.note-found.ensures
     ∙ ap (λ b. first_of c.args.state.found (when b c.code_of-code.result c.args.clause.0)) outside
-    ∙ ap (λ n. first_of c.args.state.found (when (list_any (λ n. not (is_among n c.args.clause.1.now)) (bad_names c.args.by.1 c.args.by.0.now c.args.at.1.now)) n c.args.clause.0)) code
+    ∙ ap (λ n. first_of c.args.state.found (when (list_any (λ n. not (is_among n c.args.clause.1.now)) (bad_names c.args.by.1 c.args.by.0.now c.args.at.1.now)) n
+    c.args.clause.0)) code
     ∙ block_against c.args.by.1 c.args.by.0.now c.args.at.1.now c.args.clause.1.now c.args.clause.0 c.args.state.found

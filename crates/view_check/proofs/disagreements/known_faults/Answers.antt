@@ -1,4 +1,5 @@
-use Rattle.std.proofs.Common.{rules, ◌≡◌, ◌∙◌, ◌+◌, ◌<◌, ◌≤◌, ◌++◌, [], ◌∷◌, List, ℕ, not, Some, None, Option, length, get_or, drop, map, cond, sym, ap, subst, is_some, slice_get, true, bytes_eq, Bor, MatchOption}
+use Rattle.std.proofs.Common.{rules, ◌≡◌, ◌∙◌, ◌+◌, ◌<◌, ◌≤◌, ◌++◌, [], ◌∷◌, List, ℕ, not, Some, None, Option, length, get_or, drop, map, cond, sym, ap, subst, is_some}
+use Rattle.std.proofs.Common.{slice_get, true, bytes_eq, Bor, MatchOption}
 use Rattle.first_faults.specs.Faults.{first_of}
 use Rattle.view_check.specs.GraphRules.{table_place}
 use Rattle.view_check.specs.Firsts.{against}

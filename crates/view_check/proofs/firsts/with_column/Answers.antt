@@ -1,4 +1,5 @@
-use Rattle.std.proofs.Common.{rules, ◌≡◌, ◌∙◌, ◌+◌, ◌<◌, ◌≤◌, ◌++◌, [], ◌∷◌, List, ℕ, Some, None, Option, length, get_or, drop, map, cond, sym, ap, is_some, slice_get, true, bytes_eq, Bor}
+use Rattle.std.proofs.Common.{rules, ◌≡◌, ◌∙◌, ◌+◌, ◌<◌, ◌≤◌, ◌++◌, [], ◌∷◌, List, ℕ, Some, None, Option, length, get_or, drop, map, cond, sym, ap, is_some, slice_get, true}
+use Rattle.std.proofs.Common.{bytes_eq, Bor}
 use Rattle.view_check.specs.declared.exposed.Exposed.{Exposed}
 use Rattle.view_check.specs.Firsts.{first_named, all_but}
 use Rattle.view_check.proofs.FirstLemmas.{kept, missing, put, all_but_named}

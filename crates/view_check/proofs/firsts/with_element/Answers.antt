@@ -1,4 +1,5 @@
-use Rattle.std.proofs.Common.{rules, ◌≡◌, ◌∙◌, ◌+◌, ◌<◌, ◌≤◌, ◌++◌, [], ◌∷◌, List, ℕ, Some, None, Option, length, get_or, drop, map, cond, sym, ap, is_some, slice_get, true, bytes_eq, Bor}
+use Rattle.std.proofs.Common.{rules, ◌≡◌, ◌∙◌, ◌+◌, ◌<◌, ◌≤◌, ◌++◌, [], ◌∷◌, List, ℕ, Some, None, Option, length, get_or, drop, map, cond, sym, ap, is_some, slice_get, true}
+use Rattle.std.proofs.Common.{bytes_eq, Bor}
 use Rattle.std.specs.List.{flat_map}
 use Rattle.graph_ast.specs.declared.schema.LabelDef.{LabelDef}
 use Rattle.view_check.specs.GraphRules.{exposed_in}

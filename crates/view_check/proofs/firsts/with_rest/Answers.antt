@@ -1,4 +1,5 @@
-use Rattle.std.proofs.Common.{rules, ◌≡◌, ◌∙◌, ◌+◌, ◌<◌, ◌≤◌, ◌++◌, [], ◌∷◌, List, ℕ, Some, None, Option, length, get_or, drop, map, cond, sym, ap, subst, is_some, slice_get, true, bytes_eq, Bor, MatchOption}
+use Rattle.std.proofs.Common.{rules, ◌≡◌, ◌∙◌, ◌+◌, ◌<◌, ◌≤◌, ◌++◌, [], ◌∷◌, List, ℕ, Some, None, Option, length, get_or, drop, map, cond, sym, ap, subst, is_some, slice_get}
+use Rattle.std.proofs.Common.{true, bytes_eq, Bor, MatchOption}
 use Rattle.view_check.specs.Firsts.{IsCovered}
 use Rattle.view_check.proofs.FirstLemmas.{rest_enough}
 use Rattle.view_check.proofs.firsts.with_rest.Goals as goal

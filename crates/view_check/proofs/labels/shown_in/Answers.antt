@@ -1,4 +1,5 @@
-use Rattle.std.proofs.Common.{rules, ◌≡◌, ◌∙◌, ◌+◌, ◌<◌, ◌≤◌, ◌++◌, [], ◌∷◌, List, ℕ, not, Some, None, Option, length, get_or, drop, map, cond, sym, ap, subst, is_some, slice_get, true, bytes_eq, Bor, MatchOption}
+use Rattle.std.proofs.Common.{rules, ◌≡◌, ◌∙◌, ◌+◌, ◌<◌, ◌≤◌, ◌++◌, [], ◌∷◌, List, ℕ, not, Some, None, Option, length, get_or, drop, map, cond, sym, ap, subst, is_some}
+use Rattle.std.proofs.Common.{slice_get, true, bytes_eq, Bor, MatchOption}
 use Rattle.view_check.specs.GraphRules.{table_place}
 use Rattle.view_check.specs.Clauses.{shown_by}
 use Rattle.view_check.proofs.ClauseLemmas.{shown_known, shown_unknown}

@@ -9,7 +9,8 @@ use Rattle.table_files.proofs.files.TablesRead.add.Goals as goal
 pub read_table-requires : goal.read_table-requires
 read_table-requires c =
     let table = c.index-as_slice-table.result in
-    few_columns c.args.catalog.now c.requires.valid c.args.table table c.requires.place (subst (λ ts. table ≡ get_or ts c.args.table table) c.as_slice.ensures c.index-as_slice-table.is)
+    few_columns c.args.catalog.now c.requires.valid c.args.table table c.requires.place
+    (subst (λ ts. table ≡ get_or ts c.args.table table) c.as_slice.ensures c.index-as_slice-table.is)
 
 pub returns-clause-typed : goal.returns-clause-typed
 returns-clause-typed c =

@@ -1,0 +1,4 @@
+mod Counting
+mod Forward
+mod SampleEdges
+pub mod SampleBindings
