@@ -8,25 +8,6 @@ use std::alloc::Global;
 use std::process::Abort;
 use std::test::Fail;
 
-// The query of one edge over these persons.
-fn expect_run(
-    rt: &impl Abort,
-    alloc: Global,
-    persons: &'static str,
-    outside: Outside,
-    wanted: Wanted<'_>,
-) -> Result<(), NoMemory> {
-    let (pattern, _) = &RUNS[0];
-    let query = query_text(alloc, pattern)?;
-    let files = [
-        ("schema", SCHEMA),
-        ("query", query.as_str()),
-        ("p", persons),
-        ("k", KNOWS),
-    ];
-    answers(rt, alloc, &BOTH, &files, outside, wanted)
-}
-
 // How many calls open a file and read it to its end in pieces of seven bytes.
 fn calls_for(file: &str) -> u64
     ensures { result ≤ 3000000000000000000 }
@@ -42,6 +23,12 @@ fn tells_read_faults_of_tables(rt: HostRuntime) -> Result<(), Fail> {
     let query = query_text(alloc, pattern)?;
     let texts = calls_for(SCHEMA) + calls_for(query.as_str());
     let calls = texts + calls_for(PERSON) + calls_for(KNOWS);
+    let files = [
+        ("schema", SCHEMA),
+        ("query", query.as_str()),
+        ("p", PERSON),
+        ("k", KNOWS),
+    ];
     for call in 0..calls + 1 {
         let outside = Outside {
             shelf: call,
@@ -49,7 +36,7 @@ fn tells_read_faults_of_tables(rt: HostRuntime) -> Result<(), Fail> {
             ..SOUND
         };
         let wanted = if call < calls { READ_FAULT } else { done(text) };
-        expect_run(&rt, alloc, PERSON, outside, wanted)?;
+        answers(&rt, alloc, &BOTH, &files, outside, wanted)?;
     }
     Ok(())
 }
@@ -58,7 +45,14 @@ fn tells_read_faults_of_tables(rt: HostRuntime) -> Result<(), Fail> {
 #[test]
 fn tells_write_faults_of_rows(rt: HostRuntime) -> Result<(), Fail> {
     let alloc = rt.alloc();
-    let (_, text) = &RUNS[0];
+    let (pattern, text) = &RUNS[0];
+    let query = query_text(alloc, pattern)?;
+    let files = [
+        ("schema", SCHEMA),
+        ("query", query.as_str()),
+        ("p", PERSON),
+        ("k", KNOWS),
+    ];
     let calls = text.len().div_ceil(3);
     for call in 0..calls + 1 {
         let outside = Outside {
@@ -77,7 +71,7 @@ fn tells_write_faults_of_rows(rt: HostRuntime) -> Result<(), Fail> {
             out: &text.as_bytes()[..taken],
             err: b"",
         };
-        expect_run(&rt, alloc, PERSON, outside, wanted)?;
+        answers(&rt, alloc, &BOTH, &files, outside, wanted)?;
     }
     Ok(())
 }
@@ -85,13 +79,22 @@ fn tells_write_faults_of_rows(rt: HostRuntime) -> Result<(), Fail> {
 // A table that is refused over an `err` that fails leaves both sinks empty.
 #[test]
 fn tells_write_faults_of_refusals(rt: HostRuntime) -> Result<(), Fail> {
+    let alloc = rt.alloc();
+    let (pattern, _) = &RUNS[0];
+    let query = query_text(alloc, pattern)?;
+    let files = [
+        ("schema", SCHEMA),
+        ("query", query.as_str()),
+        ("p", "id,name\n"),
+        ("k", KNOWS),
+    ];
     let silent = Wanted {
         status: Status::WriteFault,
         out: b"",
         err: b"",
     };
     let outside = Outside { err: 0, ..SOUND };
-    expect_run(&rt, rt.alloc(), "id,name\n", outside, silent)?;
+    answers(&rt, alloc, &BOTH, &files, outside, silent)?;
     Ok(())
 }
 
